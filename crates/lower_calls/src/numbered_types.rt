@@ -94,6 +94,7 @@ const NAMED: [u8; 142] = [
 const TYPES: MethodNumbers = MethodNumbers {
     start: 0,
     count: 2,
+    width: 2,
     result: None,
 };
 
@@ -120,6 +121,7 @@ const CONSTANTS: [(u16, NamedConstant); 12] = [
         9,
         NamedConstant::Method {
             interface: false,
+            init: false,
             class: 0x0700_0001,
             types: TYPES,
         },
@@ -135,11 +137,18 @@ const CONSTANTS: [(u16, NamedConstant); 12] = [
         12,
         NamedConstant::Method {
             interface: true,
+            init: false,
             class: 0x0700_0001,
             types: TYPES,
         },
     ),
-    (13, NamedConstant::Site { types: TYPES }),
+    (
+        13,
+        NamedConstant::Site {
+            special: false,
+            types: TYPES,
+        },
+    ),
     (14, NamedConstant::Dynamic { held: 0x0A00_0000 }),
     (
         15,
@@ -213,7 +222,7 @@ fn is_method<'n, C: Classes, S: BuildHasher + Drop>(
     };
     let fits = descriptors.arguments(types) == ARGUMENTS.as_slice();
     let fine = types.result.is_none() && first == again;
-    Ok(fits && fine && descriptors.into_row().len() == types.count)
+    Ok(fits && fine && descriptors.into_row().len() == usize::from(types.count))
 }
 
 /// Whether the text at 4 of that pool is not a descriptor of a method, and no text is at 5.

@@ -17,3 +17,4 @@ mod type_rows;
 mod widths;
 
 pub use method::MethodFrames;
+pub use widths::is_wide;

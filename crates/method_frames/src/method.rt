@@ -108,6 +108,13 @@ impl<'t, 'c, 'n, C: Classes, S: BuildHasher> MethodFrames<'t, 'c, 'n, C, S> {
         })
     }
 
+    /// The numbers that types have.
+    pub fn types(&self) -> &'t TypeNumbers<'c, 'n, C, S>
+        ensures { result.now ≡ self.now.types }
+    {
+        self.locals.types()
+    }
+
     /// How many local variables the frames have.
     pub fn max_locals(&self) -> u16
         ensures { result ≡ length self.now.running.locals }

@@ -61,6 +61,13 @@ impl<'t, 'c, 'n, C: Classes, S: BuildHasher> TypeRows<'t, 'c, 'n, C, S> {
         })
     }
 
+    /// The numbers that types have.
+    pub fn types(&self) -> &'t TypeNumbers<'c, 'n, C, S>
+        ensures { result.now ≡ self.now.types }
+    {
+        self.types
+    }
+
     /// The number at a place of the running row.
     pub fn get(&self, place: usize) -> u32
         requires { place < length self.now.running }

@@ -101,13 +101,13 @@ local_out : (o : Bool) (a : Outcome) (w : Bool) → o ≡ true → least (with_d
 local_out true a w e = refl
 local_out false a w e = cc
 
-local_no : (o : Bool) (a : Outcome) (w : Bool) → o ≡ false → a ≡ no → least (with_depth w (local_parts o a)) ≡ Some (reason 63)
+pub local_no : (o : Bool) (a : Outcome) (w : Bool) → o ≡ false → a ≡ no → least (with_depth w (local_parts o a)) ≡ Some (reason 63)
 local_no true a w e n = cc
 local_no false yes w e n = cc
 local_no false no w e n = refl
 local_no false (missing m) w e n = cc
 
-local_settled : (o : Bool) (a : Outcome) (w : Bool) → o ≡ false → (a ≡ no → ⊥) → least (with_depth w (local_parts o a)) ≡ least ((reason 65, w) ∷ missing_if a ∷ [])
+pub local_settled : (o : Bool) (a : Outcome) (w : Bool) → o ≡ false → (a ≡ no → ⊥) → least (with_depth w (local_parts o a)) ≡ least ((reason 65, w) ∷ missing_if a ∷ [])
 local_settled true a w e n = cc
 local_settled false yes w e n = refl
 local_settled false no w e n = absurd (n refl)

@@ -98,6 +98,7 @@ pub use declaring_class::own_class;
 pub use environment::Env;
 pub use expected::ExpectedType;
 pub use expected_types::{ExpectedLocal, ExpectedTypes};
+pub use families::number_of_result;
 pub use kept_items::{items_kept, items_kept_plainly};
 pub use members::Members;
 pub use merging::{first_reason, together};
@@ -107,6 +108,7 @@ pub use protected_members::check_member;
 pub use reason::Reason;
 pub use replacing::replaced_object;
 pub use running::{run, run_plain};
+pub use stacks::units_taken;
 pub use unmet::{Unmet, UnmetOperand, first_unknown, first_unmet, unmet_is_found};
 pub use ways::{
     branches, branches_by, falls, goes_on, is_plain, keeps_locals, stored_to,

@@ -37,7 +37,7 @@ pub absent_name : (s : Numbering) (tag rest : ℕ) → tag ≢ 7 → name_at s t
 absent_name s tag rest n = let e : nat_eq tag 7 ≡ false = grind (arith, nat_tests) in rw e refl
 
 -- the tags of absent classes
-far : (s : Numbering) (tag dims rest : ℕ) → 10 ≤ tag → type_at s tag dims rest ≡ type_with dims (slice_get s.absent ((tag - 10) * 65536 + rest))
+pub far : (s : Numbering) (tag dims rest : ℕ) → 10 ≤ tag → type_at s tag dims rest ≡ type_with dims (slice_get s.absent ((tag - 10) * 65536 + rest))
 far s tag dims rest h =
     let a : nat_eq tag 0 ≡ false = grind (arith, nat_tests) in
     let b : nat_eq tag 1 ≡ false = grind (arith, nat_tests) in

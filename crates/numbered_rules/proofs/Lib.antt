@@ -1,0 +1,13 @@
+pub mod TypeParts
+pub mod Meeting
+pub mod Standing
+pub mod Taking
+pub mod Reading
+pub mod Setting
+pub mod Moving
+pub mod Judging
+pub mod Naming
+pub mod Elements
+pub mod Calling
+pub mod Loading
+pub mod Results

@@ -1,0 +1,60 @@
+-- Items of the stack, and the places of forms that they fit.
+use Rattle.std.proofs.Common.{◌≡◌, ◌∙◌, ℕ, zero, suc, ◌+◌, ◌<◌, ◌&&◌, Bool, false, List, [], ◌∷◌, ◌++◌, Option, Some, None, drop, map, length, get_or, slice_get, refl, sym, ap, ap₂, arith}
+use Rattle.std.specs.Prelude.{option_map}
+use Rattle.std.proofs.lemmas.List.{drop_more, drop_all, map-append}
+use Rattle.std.proofs.lemmas.Option.{slice_get-map, slice_get_within, get_or_from_slice_get}
+use Rattle.hierarchy.proofs.Names.{none_some}
+use Rattle.insn.specs.declared.stack.StackPlace.{StackPlace}
+use Rattle.insn.specs.Acts.{StackForm}
+use Rattle.insn.specs.Stacks.{beneath, chosen, with_item, rearranged}
+use Rattle.frames.specs.VerificationType.{VerificationType, top}
+use Rattle.type_numbers.specs.Numbers.{Numbering, IsNumber, IsGiven}
+use Rattle.type_numbers.specs.Decoding.{type_by, types_by}
+use Rattle.type_numbers.proofs.Decoded.{number_read}
+use Rattle.rules.specs.After.{fits_place, fits_places}
+
+-- ---- places from one on
+
+pub place_none : (ps : List StackPlace) (ts : List VerificationType) (i : ℕ) → i < length ps → slice_get ts i ≡ None → fits_places (drop i ps) (drop i ts) ≡ false
+place_none [] ts i lt e = absurd (omega (arith, lt))
+place_none (p ∷ ps) [] zero lt e = refl
+place_none (p ∷ ps) (t ∷ ts) zero lt e = absurd (none_some (sym e))
+place_none (p ∷ ps) [] (suc i) lt e =
+    ap (fits_places (drop i ps)) (drop_all (suc i) [] (omega arith) ∙ sym (drop_all i [] (omega arith))) ∙ place_none ps [] i (omega (arith, lt)) refl
+place_none (p ∷ ps) (t ∷ ts) (suc i) lt e = place_none ps ts i (omega (arith, lt)) e
+
+pub place_some : (ps : List StackPlace) (ts : List VerificationType) (i : ℕ) (d : StackPlace) (t : VerificationType) → i < length ps → slice_get ts i ≡ Some t
+    → fits_places (drop i ps) (drop i ts) ≡ (fits_place (get_or ps i d) t && fits_places (drop (i + 1) ps) (drop (i + 1) ts))
+place_some ps ts i d t lt e =
+    (λ j. fits_places (drop_more ps i d lt j) (drop_more ts i top (slice_get_within ts i t e) j))
+    ∙ ap (λ u. fits_place (get_or ps i d) u && fits_places (drop (i + 1) ps) (drop (i + 1) ts)) (get_or_from_slice_get ts i t top e)
+
+pub typed_item : (s : Numbering) (row : List ℕ) (i : ℕ) (o : Option ℕ) → o ≡ slice_get row i → slice_get (types_by s row) i ≡ option_map (type_by s) o
+typed_item s row i o e = slice_get-map (type_by s) row i ∙ ap (option_map (type_by s)) (sym e)
+
+-- an item whose place is looked at
+pub place_item : (s : Numbering) (ps : List StackPlace) (row : List ℕ) (i : ℕ) (d : StackPlace) (n : ℕ) (b : Bool) → i < length ps → Some n ≡ slice_get row i → IsGiven s n
+    → ((v : Numbering) (t : VerificationType) → IsNumber v n t → b ≡ fits_place (get_or ps i d) t) → fits_places ps (types_by s row) ≡ fits_places (drop i ps) (drop i (types_by s row))
+    → fits_places ps (types_by s row) ≡ (b && fits_places (drop (i + 1) ps) (drop (i + 1) (types_by s row)))
+place_item s ps row i d n b lt e g h so_far =
+    so_far ∙ place_some ps (types_by s row) i d (type_by s n) lt (typed_item s row i (Some n) e)
+    ∙ ap (λ x. x && fits_places (drop (i + 1) ps) (drop (i + 1) (types_by s row))) (ap (fits_place (get_or ps i d)) (number_read s n g.0 g.1) ∙ sym (h s g.0 g.1))
+
+-- ---- items as a form leaves them
+
+module _ {A B : Type 0} (f : A → B) where
+  map_beneath : {P : Type 0} (ps : List P) (xs : List A) → map f (beneath ps xs) ≡ beneath ps (map f xs)
+  map_beneath [] xs = refl
+  map_beneath (p ∷ ps) [] = refl
+  map_beneath (p ∷ ps) (x ∷ xs) = map_beneath ps xs
+
+  map_with : (o : Option A) (xs : List A) → map f (with_item o xs) ≡ with_item (option_map f o) (map f xs)
+  map_with None xs = refl
+  map_with (Some x) xs = refl
+
+  map_chosen : (xs : List A) (ns : List ℕ) → map f (chosen xs ns) ≡ chosen (map f xs) ns
+  map_chosen xs [] = refl
+  map_chosen xs (n ∷ ns) = map_with (slice_get xs n) (chosen xs ns) ∙ ap₂ with_item (sym (slice_get-map f xs n)) (map_chosen xs ns)
+
+  pub map_rearranged : (form : StackForm) (xs : List A) → map f (rearranged form xs) ≡ rearranged form (map f xs)
+  map_rearranged form xs = map-append f (chosen xs form.leaves) (beneath form.takes xs) ∙ ap₂ (λ (a b : List B). a ++ b) (map_chosen xs form.leaves) (map_beneath form.takes xs)

@@ -1,0 +1,171 @@
+-- The kind of a type by the parts of its number.
+use Rattle.std.proofs.Common.{◌≡◌, ◌∙◌, ◌&&◌, ◌+◌, ◌-◌, ◌*◌, ◌/◌, ◌%◌, ◌≤◌, ℕ, zero, suc, true, false, nat_lt, nat_eq, List, Option, Some, None, slice_get, refl, sym, ap, arith}
+use Rattle.std.proofs.lemmas.Bool.Decides.{nat_tests}
+use Rattle.names.specs.declared.base.Primitive.{Primitive}
+use Rattle.names.specs.Descriptors.{dimensioned, primitive}
+use Rattle.hierarchy.proofs.Names.{none_some, some_same}
+use Rattle.insn.specs.Acts.{takes_array}
+use Rattle.frames.specs.VerificationType.{VerificationType, array}
+use Rattle.frames.specs.DeclaredFrames.{is_uninit_this}
+use Rattle.type_numbers.specs.Numbers.{Numbering, IsNumber}
+use Rattle.type_numbers.specs.Decoding.{element_at, type_with, type_at}
+use Rattle.type_numbers.proofs.Decoded.{far, read_back}
+use Rattle.rules.specs.After.{is_narrow}
+use Rattle.rules.specs.Rules.{is_array, is_array_for, is_reference}
+use Rattle.numbered_rules.specs.private.Kinds.{is_array_by, is_array_for_by, is_narrow_by, is_own_by, is_reference_by}
+
+-- ---- classes and arrays of them
+
+named_reference : (dims : ℕ) (o : Option (List ℕ)) (t : VerificationType) → type_with dims o ≡ Some t → true ≡ is_reference t
+named_reference dims None t e = absurd (none_some e)
+named_reference zero (Some name) t e = ap is_reference (some_same e)
+named_reference (suc d) (Some name) t e = ap is_reference (some_same e)
+
+named_array : (dims : ℕ) (o : Option (List ℕ)) (t : VerificationType) → type_with dims o ≡ Some t → nat_lt 0 dims ≡ is_array t
+named_array dims None t e = absurd (none_some e)
+named_array zero (Some name) t e = ap is_array (some_same e)
+named_array (suc d) (Some name) t e = let some : nat_lt 0 (suc d) ≡ true = grind (arith, nat_tests) in some ∙ ap is_array (some_same e)
+
+named_array_for : (p : Primitive) (dims : ℕ) (o : Option (List ℕ)) (t : VerificationType) → type_with dims o ≡ Some t → false ≡ is_array_for p t
+named_array_for p dims None t e = absurd (none_some e)
+named_array_for p zero (Some name) t e = ap (is_array_for p) (some_same e)
+named_array_for p (suc zero) (Some name) t e = ap (is_array_for p) (some_same e)
+named_array_for p (suc (suc d)) (Some name) t e = ap (is_array_for p) (some_same e)
+
+named_own : (dims : ℕ) (o : Option (List ℕ)) (t : VerificationType) → type_with dims o ≡ Some t → false ≡ is_uninit_this t
+named_own dims None t e = absurd (none_some e)
+named_own zero (Some name) t e = ap is_uninit_this (some_same e)
+named_own (suc d) (Some name) t e = ap is_uninit_this (some_same e)
+
+named_narrow : (dims : ℕ) (o : Option (List ℕ)) (t : VerificationType) → type_with dims o ≡ Some t → true ≡ is_narrow t
+named_narrow dims None t e = absurd (none_some e)
+named_narrow zero (Some name) t e = ap is_narrow (some_same e)
+named_narrow (suc d) (Some name) t e = ap is_narrow (some_same e)
+
+-- ---- an array of primitives
+
+primitive_array_for : (p q : Primitive) (dims : ℕ) → (nat_lt dims 2 && takes_array p q) ≡ is_array_for p (array (dimensioned (dims - 1) (primitive q)))
+primitive_array_for p q zero = refl
+primitive_array_for p q (suc zero) = refl
+primitive_array_for p q (suc (suc d)) =
+    let many : nat_lt (suc (suc d)) 2 ≡ false = grind (arith, nat_tests) in
+    let less : suc (suc d) - 1 ≡ suc d = omega arith in
+    ap (λ b. b && takes_array p q) many ∙ sym (ap (λ k. is_array_for p (array (dimensioned k (primitive q)))) less)
+
+-- ---- by the tag
+
+module _ (s : Numbering) (dims rest : ℕ) (t : VerificationType) where
+  -- the tags of absent classes
+  module _ (tag : ℕ) (h : 10 ≤ tag) (e : type_at s tag dims rest ≡ Some t) where
+    named : type_with dims (slice_get s.absent ((tag - 10) * 65536 + rest)) ≡ Some t
+    named = sym (far s tag dims rest h) ∙ e
+
+    far_reference : is_reference_by tag ≡ is_reference t
+    far_reference = let a : nat_lt 4 tag ≡ true = grind (arith, nat_tests) in a ∙ named_reference dims _ t named
+
+    far_array : is_array_by tag dims ≡ is_array t
+    far_array =
+        let a : nat_eq tag 5 ≡ false = grind (arith, nat_tests) in
+        let b : nat_eq tag 9 ≡ false = grind (arith, nat_tests) in
+        let c : nat_eq tag 7 ≡ false = grind (arith, nat_tests) in
+        let d : nat_lt 9 tag ≡ true = grind (arith, nat_tests) in
+        rw (a, b, c, d) (named_array dims _ t named)
+
+    far_array_for : (p : Primitive) → is_array_for_by p tag dims rest ≡ is_array_for p t
+    far_array_for p =
+        let a : nat_eq tag 5 ≡ false = grind (arith, nat_tests) in
+        let b : nat_eq tag 9 ≡ false = grind (arith, nat_tests) in
+        rw (a, b) (named_array_for p dims _ t named)
+
+    far_own : is_own_by tag ≡ is_uninit_this t
+    far_own = let a : nat_eq tag 6 ≡ false = grind (arith, nat_tests) in a ∙ named_own dims _ t named
+
+    far_narrow : is_narrow_by tag ≡ is_narrow t
+    far_narrow =
+        let a : nat_eq tag 0 ≡ false = grind (arith, nat_tests) in
+        let b : nat_eq tag 3 ≡ false = grind (arith, nat_tests) in
+        let c : nat_eq tag 4 ≡ false = grind (arith, nat_tests) in
+        rw (a, b, c) (named_narrow dims _ t named)
+
+  reference_tag : (tag : ℕ) → type_at s tag dims rest ≡ Some t → is_reference_by tag ≡ is_reference t
+  reference_tag zero e = ap is_reference (some_same e)
+  reference_tag (suc zero) e = ap is_reference (some_same e)
+  reference_tag (suc (suc zero)) e = ap is_reference (some_same e)
+  reference_tag (suc (suc (suc zero))) e = ap is_reference (some_same e)
+  reference_tag (suc (suc (suc (suc zero)))) e = ap is_reference (some_same e)
+  reference_tag (suc (suc (suc (suc (suc zero))))) e = ap is_reference (some_same e)
+  reference_tag (suc (suc (suc (suc (suc (suc zero)))))) e = ap is_reference (some_same e)
+  reference_tag (suc (suc (suc (suc (suc (suc (suc zero))))))) e = named_reference dims _ t e
+  reference_tag (suc (suc (suc (suc (suc (suc (suc (suc zero)))))))) e = ap is_reference (some_same e)
+  reference_tag (suc (suc (suc (suc (suc (suc (suc (suc (suc zero))))))))) e = ap is_reference (some_same e)
+  reference_tag (suc (suc (suc (suc (suc (suc (suc (suc (suc (suc k)))))))))) e = let high : 10 ≤ (suc (suc (suc (suc (suc (suc (suc (suc (suc (suc k)))))))))) = omega arith in far_reference (suc (suc (suc (suc (suc (suc (suc (suc (suc (suc k)))))))))) high e
+
+  array_tag : (tag : ℕ) → type_at s tag dims rest ≡ Some t → is_array_by tag dims ≡ is_array t
+  array_tag zero e = ap is_array (some_same e)
+  array_tag (suc zero) e = ap is_array (some_same e)
+  array_tag (suc (suc zero)) e = ap is_array (some_same e)
+  array_tag (suc (suc (suc zero))) e = ap is_array (some_same e)
+  array_tag (suc (suc (suc (suc zero)))) e = ap is_array (some_same e)
+  array_tag (suc (suc (suc (suc (suc zero))))) e = ap is_array (some_same e)
+  array_tag (suc (suc (suc (suc (suc (suc zero)))))) e = ap is_array (some_same e)
+  array_tag (suc (suc (suc (suc (suc (suc (suc zero))))))) e = named_array dims _ t e
+  array_tag (suc (suc (suc (suc (suc (suc (suc (suc zero)))))))) e = ap is_array (some_same e)
+  array_tag (suc (suc (suc (suc (suc (suc (suc (suc (suc zero))))))))) e = ap is_array (some_same e)
+  array_tag (suc (suc (suc (suc (suc (suc (suc (suc (suc (suc k)))))))))) e = let high : 10 ≤ (suc (suc (suc (suc (suc (suc (suc (suc (suc (suc k)))))))))) = omega arith in far_array (suc (suc (suc (suc (suc (suc (suc (suc (suc (suc k)))))))))) high e
+
+  array_for_tag : (p : Primitive) (tag : ℕ) → type_at s tag dims rest ≡ Some t → is_array_for_by p tag dims rest ≡ is_array_for p t
+  array_for_tag p zero e = ap (is_array_for p) (some_same e)
+  array_for_tag p (suc zero) e = ap (is_array_for p) (some_same e)
+  array_for_tag p (suc (suc zero)) e = ap (is_array_for p) (some_same e)
+  array_for_tag p (suc (suc (suc zero))) e = ap (is_array_for p) (some_same e)
+  array_for_tag p (suc (suc (suc (suc zero)))) e = ap (is_array_for p) (some_same e)
+  array_for_tag p (suc (suc (suc (suc (suc zero))))) e = ap (is_array_for p) (some_same e)
+  array_for_tag p (suc (suc (suc (suc (suc (suc zero)))))) e = ap (is_array_for p) (some_same e)
+  array_for_tag p (suc (suc (suc (suc (suc (suc (suc zero))))))) e = named_array_for p dims _ t e
+  array_for_tag p (suc (suc (suc (suc (suc (suc (suc (suc zero)))))))) e = ap (is_array_for p) (some_same e)
+  array_for_tag p (suc (suc (suc (suc (suc (suc (suc (suc (suc zero))))))))) e = primitive_array_for p (element_at rest) dims ∙ ap (is_array_for p) (some_same e)
+  array_for_tag p (suc (suc (suc (suc (suc (suc (suc (suc (suc (suc k)))))))))) e = let high : 10 ≤ (suc (suc (suc (suc (suc (suc (suc (suc (suc (suc k)))))))))) = omega arith in far_array_for (suc (suc (suc (suc (suc (suc (suc (suc (suc (suc k)))))))))) high e p
+
+  own_tag : (tag : ℕ) → type_at s tag dims rest ≡ Some t → is_own_by tag ≡ is_uninit_this t
+  own_tag zero e = ap is_uninit_this (some_same e)
+  own_tag (suc zero) e = ap is_uninit_this (some_same e)
+  own_tag (suc (suc zero)) e = ap is_uninit_this (some_same e)
+  own_tag (suc (suc (suc zero))) e = ap is_uninit_this (some_same e)
+  own_tag (suc (suc (suc (suc zero)))) e = ap is_uninit_this (some_same e)
+  own_tag (suc (suc (suc (suc (suc zero))))) e = ap is_uninit_this (some_same e)
+  own_tag (suc (suc (suc (suc (suc (suc zero)))))) e = ap is_uninit_this (some_same e)
+  own_tag (suc (suc (suc (suc (suc (suc (suc zero))))))) e = named_own dims _ t e
+  own_tag (suc (suc (suc (suc (suc (suc (suc (suc zero)))))))) e = ap is_uninit_this (some_same e)
+  own_tag (suc (suc (suc (suc (suc (suc (suc (suc (suc zero))))))))) e = ap is_uninit_this (some_same e)
+  own_tag (suc (suc (suc (suc (suc (suc (suc (suc (suc (suc k)))))))))) e = let high : 10 ≤ (suc (suc (suc (suc (suc (suc (suc (suc (suc (suc k)))))))))) = omega arith in far_own (suc (suc (suc (suc (suc (suc (suc (suc (suc (suc k)))))))))) high e
+
+  narrow_tag : (tag : ℕ) → type_at s tag dims rest ≡ Some t → is_narrow_by tag ≡ is_narrow t
+  narrow_tag zero e = ap is_narrow (some_same e)
+  narrow_tag (suc zero) e = ap is_narrow (some_same e)
+  narrow_tag (suc (suc zero)) e = ap is_narrow (some_same e)
+  narrow_tag (suc (suc (suc zero))) e = ap is_narrow (some_same e)
+  narrow_tag (suc (suc (suc (suc zero)))) e = ap is_narrow (some_same e)
+  narrow_tag (suc (suc (suc (suc (suc zero))))) e = ap is_narrow (some_same e)
+  narrow_tag (suc (suc (suc (suc (suc (suc zero)))))) e = ap is_narrow (some_same e)
+  narrow_tag (suc (suc (suc (suc (suc (suc (suc zero))))))) e = named_narrow dims _ t e
+  narrow_tag (suc (suc (suc (suc (suc (suc (suc (suc zero)))))))) e = ap is_narrow (some_same e)
+  narrow_tag (suc (suc (suc (suc (suc (suc (suc (suc (suc zero))))))))) e = ap is_narrow (some_same e)
+  narrow_tag (suc (suc (suc (suc (suc (suc (suc (suc (suc (suc k)))))))))) e = let high : 10 ≤ (suc (suc (suc (suc (suc (suc (suc (suc (suc (suc k)))))))))) = omega arith in far_narrow (suc (suc (suc (suc (suc (suc (suc (suc (suc (suc k)))))))))) high e
+
+-- ---- by a number
+
+module _ (s : Numbering) (n : ℕ) (t : VerificationType) (h : IsNumber s n t) where
+  pub reference_parts : is_reference_by (n / 16777216) ≡ is_reference t
+  reference_parts = reference_tag s (n / 65536 % 256) (n % 65536) t (n / 16777216) (read_back s n t h)
+
+  pub array_parts : is_array_by (n / 16777216) (n / 65536 % 256) ≡ is_array t
+  array_parts = array_tag s (n / 65536 % 256) (n % 65536) t (n / 16777216) (read_back s n t h)
+
+  pub array_for_parts : (p : Primitive) → is_array_for_by p (n / 16777216) (n / 65536 % 256) (n % 65536) ≡ is_array_for p t
+  array_for_parts p = array_for_tag s (n / 65536 % 256) (n % 65536) t p (n / 16777216) (read_back s n t h)
+
+  pub own_parts : is_own_by (n / 16777216) ≡ is_uninit_this t
+  own_parts = own_tag s (n / 65536 % 256) (n % 65536) t (n / 16777216) (read_back s n t h)
+
+  pub narrow_parts : is_narrow_by (n / 16777216) ≡ is_narrow t
+  narrow_parts = narrow_tag s (n / 65536 % 256) (n % 65536) t (n / 16777216) (read_back s n t h)

@@ -1,0 +1,53 @@
+//! Stores to local variables.
+ghost use Rattle.std.specs.Prelude.{◌≡◌, ◌≤◌, length};
+ghost use Rattle.rules.specs.TypingRules.{ExpectedType, stores};
+ghost use Rattle.rules.specs.After.{after};
+ghost use Rattle.rules.specs.Rules.{conditions};
+ghost use Rattle.rules.specs.Bodies.{method_view};
+ghost use Rattle.rules.specs.Outcomes.{Done};
+ghost use Rattle.numbered_rules.specs.Expected.{IsExpected, StandsFor};
+ghost use Rattle.numbered_rules.specs.Held.{held, IsRunning};
+
+use crate::expected::Expected;
+use crate::families::judge_left;
+use crate::slots::store;
+use classfile::CodeMethod;
+use hierarchy::{Answer, Classes};
+use method_frames::MethodFrames;
+use rules::Reason;
+use std::hash::BuildHasher;
+
+/// The top of the stack to a local variable (JVMS 4.10.1.9). Its refusals are 61, 62 and 64, those of `judge_left`, and
+/// 1 where memory runs out.
+pub fn stores<'n, C: Classes, S: BuildHasher>(
+    method: &CodeMethod<'_, '_>,
+    ask: Expected,
+    local: u16,
+    width: usize,
+    frames: &mut MethodFrames<'_, '_, 'n, C, S>,
+) -> Result<(), Reason<'n>>
+    requires locals { length frames.old.running.locals ≡ method.now.code.now.max_locals }
+    requires asked { IsExpected frames.old.types ask }
+    requires some { 1 ≤ width }
+    requires few { width ≤ 2 }
+    ensures done { let s = frames.old.types in let m = method_view method.now in let f = held frames.old in
+        (w : ExpectedType) → StandsFor s ask w → let p = stores w local width in
+        Done (conditions s.classes m 0 p f) (after m 0 p f) (held frames.new) result }
+    ensures rest { IsRunning frames.old frames.new }
+{
+    let Some(number) = frames.pop() else {
+        return Err(Reason::MissingOperand);
+    };
+    let answer = ask.meets(number, frames.types());
+    match answer {
+        Answer::No => Err(Reason::WrongOperand),
+        _ => {
+            let place = usize::from(local);
+            if usize::from(method.code.max_locals) < place + width {
+                return Err(Reason::LocalOutOfRange);
+            }
+            store(number, place, frames)?;
+            judge_left(method, answer, frames)
+        }
+    }
+}
