@@ -7,6 +7,7 @@ use Rattle.frames.specs.Conditions.{Reason, reason, number_of, Conditions, lesse
 use Rattle.frames.specs.StackMaps.{TypeInfo}
 use Rattle.frames.specs.MapViews.{info_of}
 use Rattle.frames.specs.DeclaredFrames.{any_info}
+use Rattle.frames.specs.private.Judging.{seven_faults}
 use Rattle.frames.specs.declared.stack_map.TypeInfo.{TypeInfo as Info}
 use Rattle.hierarchy.proofs.Names.{none_some}
 use Rattle.frames.specs.Slots.{units_of, in_locals}
@@ -76,54 +77,24 @@ least_is_first n (c ∷ cs) h =
     ap (λ o. if c.1 then Some (lesser c.0 o) else o) e
     ∙ ap (λ r. if c.1 then Some r else pick cs) (lesser_first c.0 (pick cs) (picked_least (number_of c.0) cs h.1))
 
-pub least_seven : (a b c d e f g : Bool) → least ((reason 8, a) ∷ (reason 9, b) ∷ (reason 49, c) ∷ (reason 50, d) ∷ (reason 51, e) ∷ (reason 52, f) ∷ (reason 53, g) ∷ [])
+least_seven : (a b c d e f g : Bool) → least ((reason 8, a) ∷ (reason 9, b) ∷ (reason 49, c) ∷ (reason 50, d) ∷ (reason 51, e) ∷ (reason 52, f) ∷ (reason 53, g) ∷ [])
     ≡ (if a then Some (reason 8) else if b then Some (reason 9) else if c then Some (reason 49) else if d then Some (reason 50) else if e then Some (reason 51) else if f then Some (reason 52) else if g then Some (reason 53) else None)
 least_seven a b c d e f g = least_is_first 0 ((reason 8, a) ∷ (reason 9, b) ∷ (reason 49, c) ∷ (reason 50, d) ∷ (reason 51, e) ∷ (reason 52, f) ∷ (reason 53, g) ∷ [])
     (omega arith, (omega arith, (omega arith, (omega arith, (omega arith, (omega arith, (omega arith, tt)))))))
 
-abbrev pub seven : Bool → Bool → Bool → Bool → Bool → Bool → Bool → Conditions
-seven a b c d e f g = (reason 8, a) ∷ (reason 9, b) ∷ (reason 49, c) ∷ (reason 50, d) ∷ (reason 51, e) ∷ (reason 52, f) ∷ (reason 53, g) ∷ []
-
-pub is_8 : (a b c d e f g : Bool) → a ≡ true → Some (reason 8) ≡ least (seven a b c d e f g)
-is_8 a b c d e f g p = sym (least_seven a b c d e f g ∙ rw p refl)
-
-pub is_9 : (a b c d e f g : Bool) → a ≡ false → b ≡ true → Some (reason 9) ≡ least (seven a b c d e f g)
-is_9 a b c d e f g p q = sym (least_seven a b c d e f g ∙ rw (p, q) refl)
-
-pub is_49 : (a b c d e f g : Bool) → a ≡ false → b ≡ false → c ≡ true → Some (reason 49) ≡ least (seven a b c d e f g)
-is_49 a b c d e f g p q r = sym (least_seven a b c d e f g ∙ rw (p, q, r) refl)
-
-pub is_50 : (a b c d e f g : Bool) → a ≡ false → b ≡ false → c ≡ false → d ≡ true → Some (reason 50) ≡ least (seven a b c d e f g)
-is_50 a b c d e f g p q r s = sym (least_seven a b c d e f g ∙ rw (p, q, r, s) refl)
-
-pub is_51 : (a b c d e f g : Bool) → a ≡ false → b ≡ false → c ≡ false → d ≡ false → e ≡ true → Some (reason 51) ≡ least (seven a b c d e f g)
-is_51 a b c d e f g p q r s t = sym (least_seven a b c d e f g ∙ rw (p, q, r, s, t) refl)
-
-pub is_52 : (a b c d e f g : Bool) → a ≡ false → b ≡ false → c ≡ false → d ≡ false → e ≡ false → f ≡ true → Some (reason 52) ≡ least (seven a b c d e f g)
-is_52 a b c d e f g p q r s t u = sym (least_seven a b c d e f g ∙ rw (p, q, r, s, t, u) refl)
-
-pub is_53 : (a b c d e f g : Bool) → a ≡ false → b ≡ false → c ≡ false → d ≡ false → e ≡ false → f ≡ false → g ≡ true → Some (reason 53) ≡ least (seven a b c d e f g)
-is_53 a b c d e f g p q r s t u v = sym (least_seven a b c d e f g ∙ rw (p, q, r, s, t, u, v) refl)
-
-pub is_none : (a b c d e f g : Bool) → a ≡ false → b ≡ false → c ≡ false → d ≡ false → e ≡ false → f ≡ false → g ≡ false → None ≡ least (seven a b c d e f g)
-is_none a b c d e f g p q r s t u v = sym (least_seven a b c d e f g ∙ rw (p, q, r, s, t, u, v) refl)
-
 -- a limit and the units of a chain
-pub over : (m u n : ℕ) → m < u → u ≡ n → ltb m n ≡ true
+over : (m u n : ℕ) → m < u → u ≡ n → ltb m n ≡ true
 over m u n lt e = let h : m < n = omega (arith, lt, e) in grind (arith, nat_tests)
-
-pub not_over : (m u n : ℕ) → u ≤ m → u ≡ n → ltb m n ≡ false
-not_over m u n le e = let h : n ≤ m = omega (arith, le, e) in grind (arith, nat_tests)
 
 pub units_in_locals : (links : List Link) (here : ℕ) → units_of (types_at links here) ≡ length (in_locals (locals_at links here))
 unfolding locals_at
 units_in_locals links here = sym (units_in (types_at links here))
 
-within_least : (a b c d e f g : Bool) → c ≡ true → least (seven a b c d e f g) ≡ None → ⊥
+within_least : (a b c d e f g : Bool) → c ≡ true → least (seven_faults a b c d e f g) ≡ None → ⊥
 within_least true b c d e f g p h = none_some (sym h ∙ least_seven true b c d e f g)
 within_least false true c d e f g p h = none_some (sym h ∙ least_seven false true c d e f g)
 within_least false false c d e f g p h = none_some (sym h ∙ least_seven false false c d e f g ∙ ap (λ x. if x then Some (reason 49) else if d then Some (reason 50) else if e then Some (reason 51) else if f then Some (reason 52) else if g then Some (reason 53) else None) p)
 
 -- what is not refused has its locals
-pub within : (a b d e f g : Bool) (m n : ℕ) → least (seven a b (ltb m n) d e f g) ≡ None → n ≤ m
+pub within : (a b d e f g : Bool) (m n : ℕ) → least (seven_faults a b (ltb m n) d e f g) ≡ None → n ≤ m
 within a b d e f g m n h = elim (cases_lt m n) [ inl lt ↦ absurd (within_least a b (ltb m n) d e f g (over m n n lt refl) h) | inr le ↦ le ]

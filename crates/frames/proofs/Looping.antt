@@ -15,7 +15,8 @@ use Rattle.frames.specs.DeclaredFrames.{locals_of, stack_of, delta_of, offset_of
 use Rattle.frames.specs.TypeChains.{types_at, AreLinked}
 use Rattle.frames.specs.DeclaredViews.{locals_at, fact_of, facts_of, IsInside, AreInside, Made}
 use Rattle.frames.specs.RefusedEntries.{RefusedFact, refused_before, refused_from}
-use Rattle.frames.specs.private.Judging.{told, front_of, against, Declared}
+use Rattle.frames.specs.EntrySizes.{told}
+use Rattle.frames.specs.private.Judging.{front_of, against, Declared}
 use Rattle.frames.specs.declared.chain.Link.{Link}
 use Rattle.frames.specs.declared.frame_tops.FrameTops.{FrameTops}
 use Rattle.frames.specs.declared.frame_fault.FrameFault.{FrameFault}

@@ -5,7 +5,7 @@ use Rattle.hierarchy.specs.Answer.{Outcome, yes, no, missing}
 use Rattle.frames.specs.VerificationType.{VerificationType, type_of}
 use Rattle.frames.specs.Slots.{all_locals}
 use Rattle.frames.specs.FrameAssignable.{both}
-use Rattle.frames.specs.TypeChains.{link_at, types_at, below_of, down, AreLinked, IsOn, LeadsTo, place}
+use Rattle.frames.specs.TypeChains.{link_at, types_at, below_of, down, AreLinked, IsOn, LeadsTo}
 use Rattle.frames.specs.DeclaredViews.{locals_at, fact_of}
 use Rattle.frames.specs.DeclaredTables.{declared_view, IsOf, AreOfOne}
 use Rattle.frames.specs.declared.chain.Link.{Link}

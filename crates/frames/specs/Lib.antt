@@ -22,6 +22,7 @@ pub mod TypeChains
 pub mod Rising
 pub mod DeclaredViews
 pub mod DeclaredTables
+pub mod EntrySizes
 pub mod RefusedEntries
 pub mod Marks
 pub mod MarkedCode

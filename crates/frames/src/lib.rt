@@ -85,7 +85,7 @@ pub use objects::{is_made_at, is_object, is_own};
 pub use operand_stack::OperandStack;
 pub use packed_frame::{Packed, packed_assignable};
 pub use packing::pack;
-pub use refusing::Limits;
+pub use refusing::{Limits, Sizes, judge_entry};
 pub use slot_comparison::{ABSENT, first_undecided};
 pub use stack_fitting::StackFitting;
 pub use stack_map::{MapEntry, StackMap, TypeInfo, read_map};

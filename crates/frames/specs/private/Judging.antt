@@ -1,13 +1,13 @@
 -- How entries are judged one by one, behind those before them.
-use Rattle.std.specs.Prelude.{◌≡◌, ℕ, zero, suc, ◌≤◌, Bool, List, Option, Some, None, Result, Ok, Err}
+use Rattle.std.specs.Prelude.{◌≡◌, ℕ, zero, suc, ◌≤◌, Bool, List, [], ◌∷◌, Option, Some, None, Result, Ok, Err}
 use Rattle.pool.specs.Entries.{Entry}
 use Rattle.insn.specs.Meanings.{Act}
 use Rattle.insn.specs.Offsets.{StartsRise}
 use Rattle.frames.specs.VerificationType.{VerificationType}
 use Rattle.frames.specs.FrameFact.{FrameFact}
 use Rattle.frames.specs.Slots.{units_of}
-use Rattle.frames.specs.Conditions.{Reason, reason, least}
-use Rattle.frames.specs.FrameReasons.{frame_fault_number}
+use Rattle.frames.specs.Conditions.{Reason, reason, Conditions, least}
+use Rattle.frames.specs.FrameReasons.{frame_fault_number, bad_index, wrong_kind, locals_over, stack_over, chop_too_many, not_a_start, not_a_new}
 use Rattle.frames.specs.StackMaps.{TypeInfo, MapEntry}
 use Rattle.frames.specs.DeclaredFrames.{names_nothing, names_no_class, is_made_nowhere, offset_of, locals_of, stack_of, entry_conditions}
 use Rattle.frames.specs.TypeChains.{types_at}
@@ -26,10 +26,18 @@ is_wrong NamesNothing pool code i = names_nothing pool i
 is_wrong NamesNoClass pool code i = names_no_class pool i
 is_wrong MadeNowhere pool code i = is_made_nowhere code i
 
--- the reason that a fault tells, if there is one
-abbrev pub told : Option FrameFault → Option Reason
-told None = None
-told (Some fault) = Some (reason (frame_fault_number fault))
+-- the conditions on an entry, by whether each holds
+abbrev pub seven_faults : (names_nothing names_no_class over_locals over_stack chops starts_nowhere made_nowhere : Bool)
+    → Conditions
+seven_faults a b c d e f g =
+    (reason bad_index, a)
+    ∷ (reason wrong_kind, b)
+    ∷ (reason locals_over, c)
+    ∷ (reason stack_over, d)
+    ∷ (reason chop_too_many, e)
+    ∷ (reason not_a_start, f)
+    ∷ (reason not_a_new, g)
+    ∷ []
 
 -- the offset of the entry in front, by the first offset behind it
 abbrev pub front_of : ℕ → Option ℕ

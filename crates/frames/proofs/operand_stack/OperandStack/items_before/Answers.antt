@@ -1,4 +1,4 @@
-use Rattle.std.proofs.Common.{◌≡◌, ◌∙◌, ◌<◌, List, map, ap, sym, arith}
+use Rattle.std.proofs.Common.{◌≡◌, ◌∙◌, List, map, ap, sym, arith}
 use Rattle.std.proofs.lemmas.List.{reverse-reverse}
 use Rattle.std.specs.Prelude.{get_or}
 use Rattle.frames.specs.declared.vtype.VType.{VType}

@@ -1,4 +1,4 @@
-use Rattle.std.proofs.Common.{◌≡◌, ◌<◌, ◌≤◌, ℕ, true}
+use Rattle.std.proofs.Common.{◌≡◌, ◌<◌, ◌≤◌, true}
 use Rattle.frames.specs.VerificationType.{type_of}
 use Rattle.frames.specs.Objects.{is_initialized}
 use Rattle.frames.specs.LocalTypes.{type_at}
