@@ -15,3 +15,5 @@ pub mod ItemMoves
 pub mod Summing
 pub mod LayingOut
 pub mod MapUnits
+pub mod MapWriting
+pub mod MapDeclaring

@@ -1,5 +1,5 @@
 -- The units of the types that an entry of a stack map gives.
-use Rattle.std.proofs.Common.{◌≡◌, ◌∙◌, ℕ, ◌+◌, ◌-◌, ◌<◌, ◌≤◌, ◌⊎◌, List, [], ◌∷◌, ◌++◌, length, map, take, get_or, sym, ap, subst, inl, inr, arith}
+use Rattle.std.proofs.Common.{◌≡◌, ◌∙◌, ℕ, ◌+◌, ◌-◌, ◌<◌, ◌≤◌, ◌⊎◌, List, [], ◌∷◌, ◌++◌, length, map, take, reverse, get_or, sym, ap, subst, inl, inr, arith}
 use Rattle.std.proofs.lemmas.Bool.{cases_lt}
 use Rattle.std.proofs.lemmas.List.{map-append, length-append, take_more, get_or_append_left}
 use Rattle.std.proofs.Math.Seq.{get_or-append_right}
@@ -10,7 +10,7 @@ use Rattle.frames.specs.Slots.{units_of}
 use Rattle.frames.specs.MapViews.{info_of}
 use Rattle.frames.specs.DeclaredFrames.{type_given, types_given}
 use Rattle.frames.specs.declared.stack_map.TypeInfo.{TypeInfo}
-use Rattle.frames.proofs.StackItems.{units_append}
+use Rattle.frames.proofs.StackItems.{units_append, units_reverse}
 use Rattle.type_numbers.specs.Numbers.{Numbering, IsNumber, IsGiven}
 use Rattle.type_numbers.specs.Decoding.{type_by}
 use Rattle.type_numbers.proofs.Decoded.{number_read}
@@ -58,3 +58,16 @@ numbers_more s pool xs i d ns new n lt is a e =
     let more = number_behind s ns n t is (types_given pool (map info_of (take i xs))) a in
     subst (λ ms. AreNumbers s ms (types_given pool (map info_of (take (i + 1) xs)))) (sym e)
     (subst (AreNumbers s (ns ++ n ∷ [])) (sym (given_more pool xs i d lt)) more)
+
+-- ---- the units of an entry's types, by a slice of them
+
+module _ (pool : List Entry) (xs seen : List TypeInfo) (units : ℕ) (same : seen ≡ xs) (e : units_of (types_given pool (map info_of seen)) ≡ units) where
+  pub units_in_all : units_of (types_given pool (map info_of xs)) ≡ units
+  units_in_all = subst (λ zs. units_of (types_given pool (map info_of zs)) ≡ units) same e
+
+  pub units_on_stack : units_of (reverse (types_given pool (map info_of xs))) ≡ units
+  units_on_stack = units_reverse (types_given pool (map info_of xs)) ∙ units_in_all
+
+pub units_appended : (pool : List Entry) (ts : List VerificationType) (xs seen : List TypeInfo) (before units : ℕ) → seen ≡ xs → units_of ts ≡ before
+    → units_of (types_given pool (map info_of seen)) ≡ units → units_of (ts ++ types_given pool (map info_of xs)) ≡ before + units
+units_appended pool ts xs seen before units same e f = omega (arith, units_append ts (types_given pool (map info_of xs)), e, units_in_all pool xs seen units same f)

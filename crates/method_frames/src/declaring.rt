@@ -1,5 +1,5 @@
 //! The frames that the entries of a stack map declare, as frames of a method.
-ghost use Rattle.std.specs.Prelude.{◌≡◌, ◌+◌, ◌<◌, ◌≤◌, ℕ, List, [], ◌∷◌, ◌++◌, length, map, take, reverse, replicate, slice_index, None, Some, IfOk, OnOk};
+ghost use Rattle.std.specs.Prelude.{◌≡◌, ◌+◌, ◌*◌, ◌<◌, ◌≤◌, ℕ, List, [], ◌∷◌, ◌++◌, length, map, take, reverse, replicate, slice_index, None, Some, IfOk, OnOk};
 ghost use Rattle.pool.specs.Entries.{Entry};
 ghost use Rattle.insn.specs.Offsets.{at_offset};
 ghost use Rattle.frames.specs.VerificationType.{VerificationType};
@@ -58,7 +58,8 @@ fn width_given(info: TypeInfo) -> usize
 
 /// How many units types take that an entry gives.
 fn units_given(infos: &[TypeInfo]) -> usize
-    ensures { (pool : List Entry) → units_of (types_given pool (map info_of infos.now)) ≡ result }
+    ensures units { (pool : List Entry) → units_of (types_given pool (map info_of infos.now)) ≡ result }
+    ensures few { result ≤ 2 * length infos.now }
 {
     let mut units = 0;
     for i in 0..infos.len() {
@@ -69,6 +70,7 @@ fn units_given(infos: &[TypeInfo]) -> usize
 
 /// How many units the locals behind an entry take. Those that it chops are gone already.
 fn units_after(entry: &MapEntry, units: usize) -> usize
+    requires { units ≤ 65535 }
     ensures { (pool : List Entry) (ts : List VerificationType) → units_of ts ≡ units
         → units_of (locals_behind pool (entry_of entry.now) ts) ≡ result }
 {
@@ -311,6 +313,7 @@ fn declare_one<St: Starts, C: Classes, S: BuildHasher>(
 {
     let before = locals.count();
     write_chop(entry, locals, frames)?;
+    prove!(locals.units() <= usize::from(frames.max_locals()));
     let sizes = Sizes {
         before,
         locals: units_after(entry, locals.units()),

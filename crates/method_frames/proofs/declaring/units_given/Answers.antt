@@ -12,5 +12,5 @@ loop-i-preserved c = record {
   units = λ pool. units_given pool c.args.infos.now c.loop-i.i _ c.loop-i.units c.width_given-units.result (omega (arith, c.loop-i-test.true)) (c.loop-i.invariant.units pool) (c.width_given-units.ensures.width pool);
 }
 
-pub returns : goal.returns
-returns c pool = subst (λ is. units_of (types_given pool (map info_of is)) ≡ c.loop-i.units) (take_all c.loop-i.i c.args.infos.now (omega (arith, c.loop-i-test.false))) (c.loop-i.invariant.units pool)
+pub returns-clause-units : goal.returns-clause-units
+returns-clause-units c pool = subst (λ is. units_of (types_given pool (map info_of is)) ≡ c.loop-i.units) (take_all c.loop-i.i c.args.infos.now (omega (arith, c.loop-i-test.false))) (c.loop-i.invariant.units pool)
