@@ -1,7 +1,7 @@
 -- Local variables that are given one type more behind those in use, or one less.
-use Rattle.std.proofs.Common.{◌≡◌, ◌∙◌, ℕ, suc, ◌+◌, ◌-◌, ◌<◌, ◌≤◌, Bool, true, false, cond, List, [], ◌∷◌, ◌++◌, length, take, drop, get_or, set, replicate, reverse, Option, Some, None, refl, sym, ap, subst, arith, append_assoc}
+use Rattle.std.proofs.Common.{◌≡◌, ◌∙◌, ℕ, zero, suc, ◌+◌, ◌-◌, ◌<◌, ◌≤◌, Bool, true, false, cond, List, [], ◌∷◌, ◌++◌, length, take, drop, get_or, set, replicate, reverse, Option, Some, None, refl, sym, ap, subst, arith, append_assoc}
 use Rattle.std.specs.Prelude.{MatchOption}
-use Rattle.std.proofs.lemmas.List.{length-append, length-set, map-append, map-set, reverse-reverse, take-append-drop, take-append-le, take_more}
+use Rattle.std.proofs.lemmas.List.{length-append, length-replicate, length-set, map-append, map-set, reverse-reverse, take-append-drop, take-append-le, take_more}
 use Rattle.std.proofs.Math.Seq.{set-append_seam}
 use Rattle.frames.specs.VerificationType.{VerificationType, top}
 use Rattle.frames.specs.FrameAssignable.{width_of}
@@ -161,3 +161,18 @@ pub appended_fits : (old now : NumberedFrames) (before locals ns : List ℕ) (i 
 appended_fits old now before locals ns i lt fits a e =
     subst (λ y. units_of (types_by y.types locals) + width_of (type_by y.types (get_or ns i 0)) ≤ length now.running.locals) (sym a.others)
     (omega (arith, fits, a.size, ap (λ l. units_of (types_by old.types l)) e ∙ units_split old.types before (take i ns), units_split old.types before ns, units_from old.types ns i lt))
+
+-- ---- no local is in use
+
+tops_by : (s : Numbering) (count : ℕ) → types_by s (replicate count 0) ≡ replicate count top
+tops_by s zero = refl
+tops_by s (suc n) = ap (λ ts. top ∷ ts) (tops_by s n)
+
+pub top_laid : (x : NumberedFrames) (count : ℕ) → x.running.locals ≡ replicate count 0 → IsLaidOut x []
+top_laid x count e = record {
+  same =
+      let long = ap length e ∙ length-replicate count zero in
+      let left : length x.running.locals - 0 ≡ count = omega (arith, long) in
+      ap (types_by x.types) e ∙ tops_by x.types count ∙ ap (λ n. replicate n top) (sym left);
+  fits = omega arith;
+}

@@ -17,3 +17,4 @@ pub mod LayingOut
 pub mod MapUnits
 pub mod MapWriting
 pub mod MapDeclaring
+pub mod MapLooping

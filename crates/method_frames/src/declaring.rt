@@ -307,6 +307,7 @@ fn declare_one<St: Starts, C: Classes, S: BuildHasher>(
     requires max_stack { limits.now.max_stack ≡ frames.old.limit }
     requires other { (offset : ℕ) → at ≤ offset → at_offset frames.old.declared offset ≡ None }
     requires laid { IsLaidOut frames.old locals.old }
+    ensures rest { AreMore frames.old frames.new }
     ensures declares { IfOk result (Declares limits.now.pool.now (St.code limits.now.starts.now) limits.now.max_locals
         limits.now.max_stack frames.old frames.new at (entry_of entry.now) locals.old locals.new) }
     ensures small { IfOk result (λ r. r ≡ None → at < 65536) }
@@ -359,7 +360,7 @@ fn declare_all<St: Starts, C: Classes, S: BuildHasher>(
     requires none { frames.old.declared ≡ [] }
     requires laid { IsLaidOut frames.old locals.old }
     ensures rest { AreMore frames.old frames.new }
-    ensures laid { IfOk result (λ r. IsLaidOut frames.new locals.new) }
+    ensures laid { IfOk result (λ r. IfOk r (λ u. IsLaidOut frames.new locals.new)) }
     ensures declared { IfOk result (AreDeclared (declared_frames limits.now.pool.now (St.code limits.now.starts.now)
         limits.now.max_locals limits.now.max_stack (types_by frames.old.types locals.old) (map entry_of entries.now))
         (frames_by frames.old.types frames.new.declared)) }
@@ -369,10 +370,9 @@ fn declare_all<St: Starts, C: Classes, S: BuildHasher>(
 {
     let mut behind = 0;
     for place in 0..entries.len() {
-        let at = behind + u32::from(delta(&entries[place]));
-        if let Some(fault) =
-            declare_one(alloc, &entries[place], at, limits, table, locals, frames)?
-        {
+        let entry = &entries[place];
+        let at = behind + u32::from(delta(entry));
+        if let Some(fault) = declare_one(alloc, entry, at, limits, table, locals, frames)? {
             return Ok(Err(RefusedEntry { place, at, fault }));
         }
         behind = at + 1;
