@@ -1,5 +1,5 @@
 -- One entry of a stack map: how much it leaves, and the frame that it declares.
-use Rattle.std.proofs.Common.{◌≡◌, ◌∙◌, ℕ, ◌+◌, ◌≤◌, Bool, List, [], ◌∷◌, ◌++◌, length, map, Option, Some, None, refl, sym, ap, ap₂, subst, arith}
+use Rattle.std.proofs.Common.{◌≡◌, ◌∙◌, ℕ, ◌≤◌, Bool, List, [], ◌∷◌, ◌++◌, length, None, refl, sym, ap, subst, arith}
 use Rattle.std.proofs.lemmas.List.{length-map}
 use Rattle.pool.specs.Entries.{Entry}
 use Rattle.insn.specs.Meanings.{Act}
@@ -16,7 +16,6 @@ use Rattle.type_numbers.specs.Numbers.{Numbering}
 use Rattle.type_numbers.specs.declared.constant_table.ConstantTable.{ConstantTable}
 use Rattle.type_numbers.specs.Decoding.{type_by, types_by}
 use Rattle.method_frames.specs.NumberedFrames.{NumberedFrame, NumberedFrames, frame_by}
-use Rattle.method_frames.specs.MapFrames.{IsLaidOut}
 use Rattle.method_frames.specs.private.MapFrames.{AreRewritten, IsRestacked, locals_behind, chopped, against, IsDeclared}
 use Rattle.method_frames.proofs.LayingOut.{units_are}
 

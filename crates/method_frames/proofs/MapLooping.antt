@@ -8,8 +8,7 @@ use Rattle.insn.specs.Meanings.{Act}
 use Rattle.insn.specs.Offsets.{at_offset}
 use Rattle.frames.specs.FrameFact.{FrameFact}
 use Rattle.frames.specs.VerificationType.{VerificationType}
-use Rattle.frames.specs.Conditions.{Reason, reason, least}
-use Rattle.frames.specs.FrameReasons.{frame_fault_number}
+use Rattle.frames.specs.Conditions.{Reason, least}
 use Rattle.frames.specs.StackMaps.{MapEntry}
 use Rattle.frames.specs.DeclaredFrames.{delta_of, offset_of, locals_of, stack_of, frame_with, frame_before, entry_conditions, declared_from, declared_frames}
 use Rattle.frames.specs.RefusedEntries.{RefusedFact, refused_before, refused_from, refused_entry}

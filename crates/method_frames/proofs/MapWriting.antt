@@ -1,12 +1,10 @@
 -- The locals and the stack of an entry of a stack map, written to the running frame.
-use Rattle.std.proofs.Common.{◌≡◌, ◌∙◌, ℕ, zero, suc, ◌+◌, ◌-◌, ◌<◌, ◌≤◌, refl, List, [], ◌∷◌, ◌++◌, length, map, take, drop, get_or, reverse, Result, OnOk, sym, ap, subst, arith}
-use Rattle.std.proofs.lemmas.List.{append-nil, map-append, length-drop, length-map, get_or-drop, take-append-drop, take_rest}
-use Rattle.std.proofs.lemmas.Result.{on_ok_weaker}
+use Rattle.std.proofs.Common.{◌≡◌, ◌∙◌, ℕ, zero, suc, ◌+◌, ◌-◌, refl, List, [], ◌∷◌, ◌++◌, length, map, take, drop, reverse, sym, ap, subst, arith}
+use Rattle.std.proofs.lemmas.List.{append-nil, map-append, length-drop, length-map, get_or-drop, take_rest}
 use Rattle.pool.specs.Entries.{Entry}
 use Rattle.frames.specs.VerificationType.{VerificationType}
-use Rattle.frames.specs.Slots.{units_of}
 use Rattle.frames.specs.MapViews.{info_of}
-use Rattle.frames.specs.DeclaredFrames.{type_given, types_given}
+use Rattle.frames.specs.DeclaredFrames.{types_given}
 use Rattle.frames.specs.declared.stack_map.TypeInfo.{TypeInfo}
 use Rattle.type_numbers.specs.Numbers.{Numbering, IsNumber, IsGiven}
 use Rattle.type_numbers.specs.Decoding.{type_by, types_by}

@@ -1,5 +1,5 @@
 -- The sums of the locals that an entry of a stack map leaves.
-use Rattle.std.proofs.Common.{◌≡◌, ◌∙◌, ℕ, ◌+◌, ◌-◌, ◌<◌, ◌≤◌, Bool, true, false, ltb, if◌then◌else◌, List, [], ◌∷◌, ◌++◌, length, map, refl, sym, ap, arith}
+use Rattle.std.proofs.Common.{◌≡◌, ◌∙◌, ℕ, ◌+◌, ◌-◌, ◌<◌, ◌≤◌, Bool, true, false, ltb, if◌then◌else◌, List, [], ◌∷◌, ◌++◌, length, refl, sym, ap, arith}
 use Rattle.std.specs.Prelude.{◌||◌}
 use Rattle.std.proofs.lemmas.Bool.Decides.{nat_tests}
 use Rattle.std.proofs.lemmas.List.{map-append, length-map}
@@ -8,7 +8,6 @@ use Rattle.frames.specs.FrameAssignable.{width_of}
 use Rattle.frames.specs.DeclaredFrames.{is_uninit_this, has_uninit_this}
 use Rattle.type_numbers.specs.Numbers.{Numbering}
 use Rattle.type_numbers.specs.Decoding.{type_by, types_by}
-use Rattle.method_frames.specs.private.Counted.{IsCounted}
 use Rattle.method_frames.specs.private.MapLocals.{own_among, AreSummed}
 use Rattle.method_frames.proofs.Counting.{none_numbered, none_counted, counted_more, counted_less}
 

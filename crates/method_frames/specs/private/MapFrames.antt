@@ -1,23 +1,18 @@
 -- The running frame while the entries of a stack map are gone through, and the frames that they declared so far.
-use Rattle.std.specs.Prelude.{◌≡◌, ◌≤◌, ℕ, zero, suc, ◌+◌, ◌-◌, take, List, [], ◌∷◌, ◌++◌, map, length, Option, Some, None, Result, Ok, Err}
-use Rattle.std.specs.List.{All}
+use Rattle.std.specs.Prelude.{◌≡◌, ℕ, zero, suc, ◌-◌, take, List, [], ◌∷◌, ◌++◌, length, Option, Some, None, Result, Ok, Err}
 use Rattle.pool.specs.Entries.{Entry}
 use Rattle.insn.specs.Meanings.{Act}
 use Rattle.frames.specs.VerificationType.{VerificationType}
 use Rattle.frames.specs.FrameFact.{FrameFact}
-use Rattle.frames.specs.Slots.{in_locals, units_of, all_locals}
 use Rattle.frames.specs.Conditions.{Reason, reason, least}
-use Rattle.frames.specs.EntrySizes.{told}
 use Rattle.frames.specs.FrameReasons.{frame_fault_number}
 use Rattle.frames.specs.StackMaps.{MapEntry, chop, append, full}
-use Rattle.frames.specs.DeclaredFrames.{types_given, offset_of, locals_of, stack_of, frame_with, entry_conditions, declared_from}
-use Rattle.frames.specs.RefusedEntries.{refused_from, refused_entry, RefusedFact, refused_of}
-use Rattle.frames.specs.declared.declaring.RefusedEntry.{RefusedEntry}
+use Rattle.frames.specs.DeclaredFrames.{types_given, locals_of, stack_of, frame_with, entry_conditions}
 use Rattle.frames.specs.declared.frame_fault.FrameFault.{FrameFault}
-use Rattle.type_numbers.specs.Numbers.{Numbering, IsGiven}
+use Rattle.type_numbers.specs.Numbers.{Numbering}
 use Rattle.type_numbers.specs.Decoding.{types_by}
-use Rattle.method_frames.specs.NumberedFrames.{NumberedFrame, NumberedFrames, frame_by}
-use Rattle.method_frames.specs.MapFrames.{IsLaidOut, frames_by}
+use Rattle.method_frames.specs.NumberedFrames.{NumberedFrames, frame_by}
+use Rattle.method_frames.specs.MapFrames.{IsLaidOut}
 use Rattle.method_frames.specs.private.Known.{AreGiven}
 
 -- a row of numbers that were given to these types

@@ -1,5 +1,5 @@
 -- How the locals that an entry of a stack map leaves are summed up.
-use Rattle.std.specs.Prelude.{◌≡◌, ℕ, ◌+◌, Bool, if◌then◌else◌, List, [], ◌∷◌, length}
+use Rattle.std.specs.Prelude.{◌≡◌, ℕ, ◌+◌, if◌then◌else◌, List, [], ◌∷◌}
 use Rattle.frames.specs.VerificationType.{VerificationType}
 use Rattle.frames.specs.DeclaredFrames.{is_uninit_this}
 use Rattle.type_numbers.specs.Numbers.{Numbering}

@@ -1,7 +1,7 @@
-use Rattle.std.proofs.Common.{subst, sym, ap, ◌∙◌, arith, length}
+use Rattle.std.proofs.Common.{subst, sym, ◌∙◌, arith}
 use Rattle.method_frames.specs.MapFrames.{IsLaidOut}
 use Rattle.method_frames.proofs.Given.{top_given}
-use Rattle.method_frames.proofs.LayingOut.{IsShorter, popped_off, rewritten_local}
+use Rattle.method_frames.proofs.LayingOut.{popped_off, rewritten_local}
 use Rattle.method_frames.proofs.declaring.chop.Goals as goal
 
 pub set_local-requires-clause-place : goal.set_local-requires-clause-place

@@ -1,4 +1,4 @@
-use Rattle.std.proofs.Common.{◌≡◌, ℕ, length, take, min}
+use Rattle.std.proofs.Common.{◌≡◌, length, take}
 use Rattle.method_frames.specs.MapFrames.{IsLaidOut}
 use Rattle.method_frames.specs.private.MapFrames.{AreRewritten}
 use Rattle.method_frames.proofs.declaring.chop.Given as goal

@@ -1,8 +1,7 @@
-use Rattle.std.proofs.Common.{◌≡◌, ◌∙◌, ◌+◌, ◌≤◌, ◌<◌, ◌∷◌, List, [], length, map, drop, refl, sym, ap, subst, arith}
+use Rattle.std.proofs.Common.{◌∙◌, ◌+◌, ◌∷◌, map, drop, refl, sym, ap, subst, arith}
 use Rattle.frames.specs.Conditions.{reason}
 use Rattle.frames.specs.FrameReasons.{frame_fault_number}
 use Rattle.frames.specs.MapViews.{entry_of}
-use Rattle.frames.specs.StackMaps.{MapEntry}
 use Rattle.frames.specs.DeclaredFrames.{declared_frames}
 use Rattle.frames.specs.RefusedEntries.{refused_entry}
 use Rattle.type_numbers.specs.Decoding.{types_by}

@@ -1,7 +1,3 @@
-use Rattle.std.proofs.Common.{◌≡◌, map, subst, sym}
-use Rattle.frames.specs.MapViews.{info_of}
-use Rattle.frames.specs.DeclaredFrames.{types_given}
-use Rattle.frames.specs.Slots.{units_of}
 use Rattle.method_frames.proofs.MapUnits.{units_on_stack}
 use Rattle.method_frames.proofs.declaring.stack_units.Goals as goal
 

@@ -1,4 +1,4 @@
-use Rattle.std.proofs.Common.{◌+◌, ◌*◌, arith}
+use Rattle.std.proofs.Common.{arith}
 use Rattle.method_frames.proofs.MapUnits.{units_appended, units_in_all}
 use Rattle.method_frames.proofs.declaring.units_after.Goals as goal
 

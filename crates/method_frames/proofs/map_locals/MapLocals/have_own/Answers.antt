@@ -1,4 +1,4 @@
-use Rattle.std.proofs.Common.{◌≡◌, ◌∙◌, ap}
+use Rattle.std.proofs.Common.{◌∙◌, ap}
 use Rattle.frames.specs.DeclaredFrames.{has_uninit_this}
 use Rattle.type_numbers.specs.Decoding.{types_by}
 use Rattle.method_frames.proofs.Summing.{own_told}

@@ -1,4 +1,4 @@
-use Rattle.std.proofs.Common.{◌+◌, ◌-◌, ◌≤◌, ◌++◌, ◌∷◌, [], ◌∙◌, sym, ap, subst, arith}
+use Rattle.std.proofs.Common.{◌-◌, ◌≤◌, subst}
 use Rattle.method_frames.specs.private.Counted.{IsCounted}
 use Rattle.method_frames.specs.private.MapLocals.{AreSummed}
 use Rattle.method_frames.proofs.Counting.{counted_some}

@@ -1,4 +1,4 @@
-use Rattle.std.proofs.Common.{◌+◌, ◌++◌, ◌∷◌, [], ◌∙◌, sym, subst, arith}
+use Rattle.std.proofs.Common.{◌+◌, ◌++◌, ◌∷◌, [], sym, subst, arith}
 use Rattle.method_frames.specs.private.MapLocals.{AreSummed}
 use Rattle.method_frames.proofs.Counting.{wides_most}
 use Rattle.method_frames.proofs.Summing.{one_if, own_most, summed_more, summed_others}

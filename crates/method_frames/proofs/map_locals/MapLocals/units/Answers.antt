@@ -1,4 +1,4 @@
-use Rattle.std.proofs.Common.{◌+◌, arith}
+use Rattle.std.proofs.Common.{arith}
 use Rattle.method_frames.proofs.Counting.{wides_most}
 use Rattle.method_frames.proofs.map_locals.MapLocals.units.Goals as goal
 
