@@ -12,13 +12,13 @@ use std::alloc::{AllocError, Global};
 use std::test::*;
 
 /// Three instructions that do nothing, and `return`.
-const CODE: [u8; 4] = [0, 0, 0, 0xB1];
+pub const CODE: [u8; 4] = [0, 0, 0, 0xB1];
 
 /// Three local variables in five units, the last of the class at index 1, which is K.
 const LOCALS: [VType<'static>; 4] = [VType::Int, VType::Long, VType::Top, VType::Class(b"K")];
 
 /// A stack map whose entries have these locals, the same and a stack, and all of them but the last.
-fn stack_map<'a>(alloc: Global) -> Result<StackMap<'a>, AllocError> {
+pub fn stack_map<'a>(alloc: Global) -> Result<StackMap<'a>, AllocError> {
     let locals = [TypeInfo::Integer, TypeInfo::Long, TypeInfo::Object(1)];
     let entries = [
         MapEntry::Append(0, locals.to_vec(alloc)?),
@@ -29,12 +29,14 @@ fn stack_map<'a>(alloc: Global) -> Result<StackMap<'a>, AllocError> {
 }
 
 /// The limits of the frames, where the stack has room for this many units.
-fn limits<'m, 'a>(
+pub fn limits<'m, 'a>(
     class: &'m ClassFile<'a>,
     starts: &'m CodeStarts<'m>,
     max_stack: u16,
 ) -> Limits<'m, 'a, CodeStarts<'m>>
-    ensures { result.pool.now ≡ class.now.constant_pool }
+    ensures pool { result.pool.now ≡ class.now.constant_pool }
+    ensures max_locals { result.max_locals ≡ 5 }
+    ensures max_stack { result.max_stack ≡ max_stack }
 {
     Limits {
         pool: &class.constant_pool,

@@ -5,7 +5,7 @@ use Rattle.std.proofs.lemmas.Bool.{false≢true}
 use Rattle.std.proofs.lemmas.Option.{slice_get-map, slice_get-get_or}
 use Rattle.std.proofs.lemmas.List.{length-map}
 use Rattle.hierarchy.specs.Answer.{Outcome, yes, no, missing}
-use Rattle.frames.specs.VerificationType.{VerificationType, top}
+use Rattle.frames.specs.VerificationType.{VerificationType}
 use Rattle.frames.specs.Assignable.{type_answer}
 use Rattle.frames.specs.FrameAssignable.{list_answer}
 use Rattle.frames.specs.Meaning.{answers}

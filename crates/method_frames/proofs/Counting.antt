@@ -10,7 +10,7 @@ use Rattle.type_numbers.specs.Numbers.{Numbering}
 use Rattle.type_numbers.specs.Decoding.{type_by, types_by}
 use Rattle.method_frames.specs.private.Counted.{IsCounted}
 
-none_numbered : Numbering
+pub none_numbered : Numbering
 none_numbered = record { classes = []; absent = []; present = [] }
 
 pub wides_most : (xs : List ℕ) (w : ℕ) → IsCounted xs w → w ≤ length xs

@@ -12,3 +12,9 @@ pub mod StackComparing
 pub mod Offsets
 pub mod MethodParts
 pub mod ItemMoves
+pub mod Summing
+pub mod LayingOut
+pub mod MapUnits
+pub mod MapWriting
+pub mod MapDeclaring
+pub mod MapLooping

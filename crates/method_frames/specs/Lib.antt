@@ -1,4 +1,5 @@
 pub mod TypeRows
 pub mod NumberedStacks
 pub mod NumberedFrames
+pub mod MapFrames
 pub mod private

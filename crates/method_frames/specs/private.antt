@@ -4,3 +4,5 @@ pub mod Counted
 pub mod Stacks
 pub mod Frames
 pub mod Moves
+pub mod MapLocals
+pub mod MapFrames

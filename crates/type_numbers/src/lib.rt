@@ -28,5 +28,5 @@ mod type_numbers;
 pub use constant_table::ConstantTable;
 pub use method_numbers::{DescriptorNumbers, MethodNumbers};
 pub use named_constant::NamedConstant;
-pub use parts::{Parts, element_at};
+pub use parts::{Parts, element_at, uninit_number};
 pub use type_numbers::TypeNumbers;
