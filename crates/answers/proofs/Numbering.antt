@@ -2,7 +2,7 @@
 use Rattle.std.proofs.Common.{◌≡◌, ℕ, ◌+◌, ◌<◌, List, ◌++◌, length, drop, slice_index_or, ◌∙◌, ap, sym, ◌≤◌, Bool, true, false, nat_lt, cond, refl, arith}
 use Rattle.std.proofs.lemmas.Bool.{ltb-false, ltb-true}
 use Rattle.std.proofs.lemmas.List.{at_drop_more}
-use Rattle.verify.specs.declared.each.Judgement.{Judgement}
+use Rattle.verify.specs.declared.judgements.Judgement.{Judgement}
 use Rattle.answers.specs.Judgements.{numbered_lines, lines_from, judgement_status, greater, worst_status}
 
 -- the lines of the file at i, in front of those behind it

@@ -10,8 +10,8 @@ use Rattle.hierarchy.specs.Faults.{FaultOf}
 use Rattle.hierarchy.specs.Rules.{IsHierarchy}
 use Rattle.hierarchy.specs.ClassSummary.{summary_of}
 use Rattle.printing.specs.Names.{spelled_text}
-use Rattle.verify.specs.declared.each.Judgement.{Judgement}
-use Rattle.verify.specs.declared.each.Judgement.TheVariants.{Reported, Refused, NotInHierarchy, FinalSuper}
+use Rattle.verify.specs.declared.judgements.Judgement.{Judgement}
+use Rattle.verify.specs.declared.judgements.Judgement.TheVariants.{Reported, Refused, NotInHierarchy, FinalSuper}
 use Rattle.verify.specs.declared.report.Report.{Report}
 use Rattle.verify.specs.declared.report.ClassFault.{ClassFault}
 use Rattle.verify.specs.declared.report.ClassFault.TheVariants as classes

@@ -6,8 +6,8 @@ use Rattle.std.proofs.lemmas.Option.{slice_get-map, slice_get_within, slice_get-
 use Rattle.classfile.specs.declared.profile.Profile.{Profile}
 use Rattle.classfile.specs.Values.{Class}
 use Rattle.classfile.specs.Laws.{OneClass}
-use Rattle.verify.specs.declared.among.AmongFault.{AmongFault}
-use Rattle.verify.specs.declared.among.AmongFault.TheVariants.{OutOfMemory, Refused, KnownRefused, NoHierarchy, FinalSuper}
+use Rattle.verify.specs.declared.known_classes.AmongFault.{AmongFault}
+use Rattle.verify.specs.declared.known_classes.AmongFault.TheVariants.{OutOfMemory, Refused, KnownRefused, NoHierarchy, FinalSuper}
 use Rattle.verify.specs.Among.{ReportsAmong}
 use Rattle.classfile.specs.declared.reading.CutShort.{CutShort}
 use Rattle.verify.specs.Files.{Read, IsFormed}

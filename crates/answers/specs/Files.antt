@@ -5,8 +5,8 @@ use Rattle.layout.specs.declared.fault.ReadFault.{ReadFault}
 use Rattle.layout.specs.declared.fault.ReadFault.TheVariants as reading
 use Rattle.verify.specs.declared.files.FileFault.{FileFault}
 use Rattle.verify.specs.declared.files.FileFault.TheVariants.{Unread}
-use Rattle.verify.specs.declared.among.AmongFault.{AmongFault}
-use Rattle.verify.specs.declared.among.AmongFault.TheVariants.{KnownRefused}
+use Rattle.verify.specs.declared.known_classes.AmongFault.{AmongFault}
+use Rattle.verify.specs.declared.known_classes.AmongFault.TheVariants.{KnownRefused}
 use Rattle.verify.specs.Files.{Read}
 
 -- a file as the program read it

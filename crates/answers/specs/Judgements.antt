@@ -4,9 +4,9 @@ use Rattle.std.specs.Prelude.{◌≡◌, ◌⊎◌, ℕ, ◌+◌, List, [], ◌�
 use Rattle.std.specs.List.{flat_map}
 use Rattle.classfile.specs.declared.profile.Profile.{Profile}
 use Rattle.hierarchy.specs.declared.fault.HierarchyFault.{HierarchyFault}
-use Rattle.verify.specs.declared.each.Judgement.{Judgement}
-use Rattle.verify.specs.declared.each.Judgement.TheVariants.{Reported, Refused, NotInHierarchy, FinalSuper}
-use Rattle.verify.specs.declared.each.EachFault.TheVariants.{NoHierarchy}
+use Rattle.verify.specs.declared.judgements.Judgement.{Judgement}
+use Rattle.verify.specs.declared.judgements.Judgement.TheVariants.{Reported, Refused, NotInHierarchy, FinalSuper}
+use Rattle.verify.specs.declared.judgements.EachFault.TheVariants.{NoHierarchy}
 use Rattle.printing.specs.Names.{spelled_text}
 use Rattle.verify.specs.Files.{Read}
 use Rattle.verify.specs.Each.{JudgesEach, JudgesNone}

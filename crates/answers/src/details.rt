@@ -6,7 +6,7 @@ ghost use Rattle.verify.specs.DifferencesAt.{difference_at_of};
 ghost use Rattle.printing.specs.Json.{fields_then};
 ghost use Rattle.answers.specs.Details.{sought_by, is_arriving, entry_of, placed_line, offset_text, detail_line, detail_line_of, placed_fields, offset_fields, detail_fields, detail_fields_of};
 
-use crate::unmet::{UnmetFields, UnmetLine};
+use crate::unmet_lines::{UnmetFields, UnmetLine};
 use frames::Sought;
 use printing::{DifferenceFields, DifferenceLine, More, Number, Print, Then, Word, WriteFailed};
 use rules::Reason;

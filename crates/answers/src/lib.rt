@@ -14,8 +14,8 @@
 //! - `refusal`: the line of a file that is refused.
 //! - `verdicts`: the lines of `verify`; `judgements`: those of `verify-each`; `plays`: those of `play`.
 //! - `refusing`: the lines of `verify` and of `explain` where there are no verdicts on a class that is well formed.
-//! - `explaining`: the lines of `explain` about methods; `details`: what is wrong with a frame; `unmet`: the line of an
-//!   expected type; `sentences`: the sentence on each number.
+//! - `explaining`: the lines of `explain` about methods; `details`: what is wrong with a frame; `unmet_lines`: the line
+//!   of an expected type; `sentences`: the sentence on each number.
 //!
 //! `laws` says that a command has one answer.
 //!
@@ -41,7 +41,7 @@ mod refusing;
 mod sentences;
 mod showing;
 mod telling;
-mod unmet;
+mod unmet_lines;
 mod verdicts;
 mod verifying;
 mod verifying_each;

@@ -16,9 +16,9 @@ use Rattle.rules.specs.After.{local_of}
 use Rattle.rules.specs.Rules.{accepts, local_answer, may_construct}
 use Rattle.rules.specs.Views.{expected_view}
 use Rattle.rules.specs.ExpectedTypes.{ExpectedLocal, ExpectedTypes}
-use Rattle.rules.specs.declared.unmet.UnmetOperand.{UnmetOperand}
-use Rattle.rules.specs.declared.unmet.Unmet.{Unmet}
-use Rattle.rules.specs.declared.unmet.Unmet.TheVariants.{Operand, Receiver, Local, Units}
+use Rattle.rules.specs.declared.unmet_expectations.UnmetOperand.{UnmetOperand}
+use Rattle.rules.specs.declared.unmet_expectations.Unmet.{Unmet}
+use Rattle.rules.specs.declared.unmet_expectations.Unmet.TheVariants.{Operand, Receiver, Local, Units}
 
 -- an operand, by its place from the one that is pushed first, which is at 1; no type is found where the stack has no
 -- such item

@@ -12,8 +12,8 @@
 //! - `ways`: where an instruction goes, whether it is plain, and whether it leaves the locals as they are.
 //! - `kept_items`: how many items of the stack an instruction leaves as they are.
 //! - `replacing`: the uninitialized object whose type an instruction replaces in the locals.
-//! - `expected_types`: the expected types of all that an instruction takes; `unmet`: the first of them that a frame
-//!   does not meet, and the first of which that is not known.
+//! - `expected_types`: the expected types of all that an instruction takes; `unmet_expectations`: the first of them that
+//!   a frame does not meet, and the first of which that is not known.
 //!
 //! Instructions, family by family:
 //!
@@ -88,7 +88,7 @@ mod slots;
 mod special_calls;
 mod stacks;
 mod stores;
-mod unmet;
+mod unmet_expectations;
 mod ways;
 mod working;
 
@@ -109,7 +109,7 @@ pub use reason::Reason;
 pub use replacing::replaced_object;
 pub use running::{run, run_plain};
 pub use stacks::units_taken;
-pub use unmet::{Unmet, UnmetOperand, first_unknown, first_unmet, unmet_is_found};
+pub use unmet_expectations::{Unmet, UnmetOperand, first_unknown, first_unmet, unmet_is_found};
 pub use ways::{
     branches, branches_by, falls, goes_on, is_plain, keeps_locals, stored_to,
     typing_rules_go_as_acts,

@@ -18,8 +18,8 @@ use Rattle.verify.specs.declared.report.Report.{Report}
 use Rattle.verify.specs.declared.play.PlayRule.{PlayRule}
 use Rattle.verify.specs.declared.play.PlayStop.{PlayStop}
 use Rattle.verify.specs.declared.play.PlayStop.TheVariants as stops
-use Rattle.verify.specs.declared.together.TogetherFault.{TogetherFault}
-use Rattle.verify.specs.declared.together.TogetherFault.TheVariants.{OutOfMemory, Refused, NoHierarchy, Broken, NotVerified}
+use Rattle.verify.specs.declared.classes_in_play.TogetherFault.{TogetherFault}
+use Rattle.verify.specs.declared.classes_in_play.TogetherFault.TheVariants.{OutOfMemory, Refused, NoHierarchy, Broken, NotVerified}
 use Rattle.verify.specs.Files.{Read, IsDecoded, IsRefused, AreFormed, IsFirstRefused}
 use Rattle.verify.specs.Plays.{IsStopped}
 use Rattle.verify.specs.Together.{facts_in, HaveReports, HaveNone, ReportsTogether, NotTogether, ArePlayableFiles}

@@ -17,8 +17,8 @@ use Rattle.hierarchy.specs.Rules.{IsHierarchy}
 use Rattle.hierarchy.specs.Faults.{FaultOf}
 use Rattle.hierarchy.specs.ClassSummary.{summary_of}
 use Rattle.verify.specs.declared.explanation.Explained.{Explained}
-use Rattle.verify.specs.declared.among.AmongFault.{AmongFault}
-use Rattle.verify.specs.declared.among.AmongFault.TheVariants as amongs
+use Rattle.verify.specs.declared.known_classes.AmongFault.{AmongFault}
+use Rattle.verify.specs.declared.known_classes.AmongFault.TheVariants as amongs
 use Rattle.verify.specs.FinalSuper.{has_final_super}
 use Rattle.verify.specs.Explaining.{IsExplained}
 use Rattle.verify.specs.Among.{AnswersAmong, ReportsAmong}

@@ -2,7 +2,7 @@
 use Rattle.std.proofs.Common.{List, [], ◌∷◌, ◌++◌, refl, subst}
 use Rattle.classfile.specs.declared.profile.Profile.{Profile}
 use Rattle.hierarchy.specs.Class.{ClassFact}
-use Rattle.verify.specs.declared.each.Judgement.{Judgement}
+use Rattle.verify.specs.declared.judgements.Judgement.{Judgement}
 use Rattle.verify.specs.Files.{Read}
 use Rattle.verify.specs.Each.{AddsFile, AddsFiles, IsJudged, AreJudged}
 

@@ -11,8 +11,8 @@ use Rattle.hierarchy.specs.Faults.{FaultOf}
 use Rattle.hierarchy.specs.ClassSummary.{summary_of}
 use Rattle.verify.specs.declared.report.Report.{Report}
 use Rattle.verify.specs.declared.explanation.Explained.{Explained}
-use Rattle.verify.specs.declared.among.AmongFault.{AmongFault}
-use Rattle.verify.specs.declared.among.AmongFault.TheVariants.{OutOfMemory, Refused, KnownRefused, NoHierarchy, FinalSuper}
+use Rattle.verify.specs.declared.known_classes.AmongFault.{AmongFault}
+use Rattle.verify.specs.declared.known_classes.AmongFault.TheVariants.{OutOfMemory, Refused, KnownRefused, NoHierarchy, FinalSuper}
 use Rattle.verify.specs.Files.{Read, IsFormed, IsRefused, AreFormed, IsFirstRefused}
 use Rattle.verify.specs.Reports.{IsReport}
 use Rattle.verify.specs.Explaining.{IsExplained}

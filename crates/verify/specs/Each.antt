@@ -12,10 +12,10 @@ use Rattle.verify.specs.declared.files.FileFault.{FileFault}
 use Rattle.verify.specs.declared.report.Report.{Report}
 use Rattle.verify.specs.declared.report.ClassFault.{ClassFault}
 use Rattle.verify.specs.declared.report.ClassFault.TheVariants as classes
-use Rattle.verify.specs.declared.each.Judgement.{Judgement}
-use Rattle.verify.specs.declared.each.Judgement.TheVariants.{Reported, Refused, NotInHierarchy, FinalSuper}
-use Rattle.verify.specs.declared.each.EachFault.{EachFault}
-use Rattle.verify.specs.declared.each.EachFault.TheVariants.{OutOfMemory, NoHierarchy}
+use Rattle.verify.specs.declared.judgements.Judgement.{Judgement}
+use Rattle.verify.specs.declared.judgements.Judgement.TheVariants.{Reported, Refused, NotInHierarchy, FinalSuper}
+use Rattle.verify.specs.declared.judgements.EachFault.{EachFault}
+use Rattle.verify.specs.declared.judgements.EachFault.TheVariants.{OutOfMemory, NoHierarchy}
 use Rattle.verify.specs.Files.{Read, IsFormed, IsRefused}
 use Rattle.verify.specs.Reports.{Reports}
 use Rattle.verify.specs.Standing.{standing}

@@ -10,8 +10,8 @@ use Rattle.hierarchy.specs.Rules.{IsHierarchy}
 use Rattle.hierarchy.specs.Faults.{FaultOf}
 use Rattle.hierarchy.specs.ClassSummary.{summary_of}
 use Rattle.verify.specs.declared.report.Report.{Report}
-use Rattle.verify.specs.declared.together.TogetherFault.{TogetherFault}
-use Rattle.verify.specs.declared.together.TogetherFault.TheVariants.{OutOfMemory, Refused, NoHierarchy, Broken, NotVerified}
+use Rattle.verify.specs.declared.classes_in_play.TogetherFault.{TogetherFault}
+use Rattle.verify.specs.declared.classes_in_play.TogetherFault.TheVariants.{OutOfMemory, Refused, NoHierarchy, Broken, NotVerified}
 use Rattle.verify.specs.Files.{Read, AreFormed, IsFirstRefused}
 use Rattle.verify.specs.Plays.{HasRefused, Breaks, ArePlayed, BreaksFirst}
 use Rattle.verify.specs.ClassRunSafety.{ArePlayable}

@@ -15,8 +15,8 @@
 //! Files:
 //!
 //! - `files`: from a file as it was read to a class that is well formed.
-//! - `among`: a class among its known classes; `together`: classes in play.
-//! - `each`: the classes of many files, each judged among all; `gathering`: the classes in files, the first of each
+//! - `known_classes`: a class among its known classes; `classes_in_play`: classes in play.
+//! - `judgements`: the classes of many files, each judged among all; `gathering`: the classes in files, the first of each
 //!   name; `standing`: which of these stand.
 //!
 //! The pass over a method's code:
@@ -43,14 +43,13 @@
 //! - `verified_walk`: walks of the machine through verified methods.
 #![tactic(auto)]
 
-mod among;
 mod body;
 mod branching;
 mod catching;
+mod classes_in_play;
 mod comparisons;
 mod detail;
 mod difference_at;
-mod each;
 mod exceptions;
 mod explanation;
 mod files;
@@ -60,7 +59,9 @@ mod frames_at;
 mod gathering;
 mod handlers;
 mod initial;
+mod judgements;
 mod judging;
+mod known_classes;
 mod known_facts;
 mod laws;
 mod listing;
@@ -75,14 +76,13 @@ mod representatives;
 mod stack_maps;
 mod standing;
 mod theorem;
-mod together;
 mod verdict;
 mod verified_walk;
 
-pub use among::{AmongFault, explain_among_under, verify_among, verify_among_under};
+pub use known_classes::{AmongFault, explain_among_under, verify_among, verify_among_under};
 pub use detail::Detail;
 pub use difference_at::DifferenceAt;
-pub use each::{EachFault, Judgement, verify_each};
+pub use judgements::{EachFault, Judgement, verify_each};
 pub use explanation::Explained;
 pub use files::{FileFault, FileRead, class_file};
 pub use frames_at::FramesAt;
@@ -97,6 +97,6 @@ pub use report::{
     ClassFault, MethodVerdict, Report, verify_class, verify_class_under, verify_methods,
 };
 pub use theorem::{type_safe_is_safe, verified_is_playable};
-pub use together::{TogetherFault, verify_together, verify_together_under};
+pub use classes_in_play::{TogetherFault, verify_together, verify_together_under};
 pub use verdict::{Verdict, VerifyFault};
 pub use verified_walk::{WalkFault, walk_verified};

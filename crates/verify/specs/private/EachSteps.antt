@@ -9,8 +9,8 @@ use Rattle.hierarchy.specs.Ancestors.{place_after}
 use Rattle.hierarchy.specs.Class.{ClassFact}
 use Rattle.hierarchy.specs.Faults.{FaultOf}
 use Rattle.hierarchy.specs.declared.fault.HierarchyFault.TheVariants as hierarchies
-use Rattle.verify.specs.declared.each.EachFault.{EachFault}
-use Rattle.verify.specs.declared.each.EachFault.TheVariants.{OutOfMemory, NoHierarchy}
+use Rattle.verify.specs.declared.judgements.EachFault.{EachFault}
+use Rattle.verify.specs.declared.judgements.EachFault.TheVariants.{OutOfMemory, NoHierarchy}
 use Rattle.verify.specs.Standing.{onward, ahead}
 
 -- the place that is kept for a name

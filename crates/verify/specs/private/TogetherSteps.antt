@@ -7,7 +7,7 @@ use Rattle.classfile.specs.Views.{class_view}
 use Rattle.classfile.specs.WellFormed.{WellFormed}
 use Rattle.verify.specs.declared.play.PlayStop.{PlayStop}
 use Rattle.verify.specs.declared.play.PlayStop.TheVariants.{OutOfMemory, Broken, Refused}
-use Rattle.verify.specs.declared.together.TogetherFault.{TogetherFault}
+use Rattle.verify.specs.declared.classes_in_play.TogetherFault.{TogetherFault}
 use Rattle.verify.specs.Files.{Read, IsDecoded}
 use Rattle.verify.specs.Together.{NotTogether}
 

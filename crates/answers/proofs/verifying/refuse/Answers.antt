@@ -1,5 +1,5 @@
 use Rattle.std.proofs.Common.{◌≡◌, ◌∙◌, inl, inr, map, Err, Some, slice_get, sym, ap, subst}
-use Rattle.verify.specs.declared.among.AmongFault.TheVariants.{Refused, KnownRefused, NoHierarchy, FinalSuper}
+use Rattle.verify.specs.declared.known_classes.AmongFault.TheVariants.{Refused, KnownRefused, NoHierarchy, FinalSuper}
 use Rattle.verify.specs.Among.{ReportsAmong}
 use Rattle.answers.specs.Files.{file_view, read_view, reads_of, refusal_status}
 use Rattle.answers.specs.Verdicts.{class_object, class_refusal, known_object, known_refusal, hierarchy_told, final_super_told, IsTold, VerifySays}

@@ -1,7 +1,7 @@
 use Rattle.std.proofs.Common.{◌≡◌, ◌∙◌, map, inl, inr, ap, subst, sym}
 use Rattle.verify.specs.Files.{read_of}
 use Rattle.verify.specs.Each.{JudgesEach, JudgesNone}
-use Rattle.verify.specs.declared.each.EachFault.TheVariants.{NoHierarchy}
+use Rattle.verify.specs.declared.judgements.EachFault.TheVariants.{NoHierarchy}
 use Rattle.answers.specs.declared.command.Form.TheVariants.{Plain}
 use Rattle.answers.specs.Files.{read_view}
 use Rattle.answers.specs.Verdicts.{hierarchy_refusal}

@@ -1,5 +1,0 @@
-use Rattle.std.proofs.Common.{length}
-use Rattle.rules.proofs.unmet.+sought_operand.Given as goal
-
-abbrev pub decreases-sought_operand : goal.decreases-sought_operand
-decreases-sought_operand g l = length l.expected.now

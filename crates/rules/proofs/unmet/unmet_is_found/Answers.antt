@@ -1,5 +1,0 @@
-use Rattle.rules.proofs.FoundOperands.{unmet_is_found}
-use Rattle.rules.proofs.unmet.unmet_is_found.Goals as goal
-
-pub returns : goal.returns
-returns c = unmet_is_found

@@ -1,8 +1,0 @@
--- The files so far were judged.
-use Rattle.std.proofs.Common.{map, take}
-use Rattle.verify.specs.Files.{read_of}
-use Rattle.verify.specs.Each.{AreJudged}
-use Rattle.verify.proofs.each.judge_all.Given as goal
-
-abbrev pub invariant-loop-file : goal.invariant-loop-file
-invariant-loop-file g l = AreJudged l.profile (g.C.Classes.content l.classes) (take l.file-index (map read_of l.files)) l.judgements.items
