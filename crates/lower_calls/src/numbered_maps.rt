@@ -11,7 +11,9 @@ use std::test::*;
 use type_numbers::{ConstantTable, TypeNumbers};
 
 const INT: u32 = 0x0100_0000;
+
 const DOUBLE: u32 = 0x0300_0000;
+
 const LONG: u32 = 0x0400_0000;
 
 /// Whether the frame at an offset is found, and has these locals and this item on its stack, if one.

@@ -79,13 +79,14 @@ mod theorem;
 mod verdict;
 mod verified_walk;
 
-pub use known_classes::{AmongFault, explain_among_under, verify_among, verify_among_under};
+pub use classes_in_play::{TogetherFault, verify_together, verify_together_under};
 pub use detail::Detail;
 pub use difference_at::DifferenceAt;
-pub use judgements::{EachFault, Judgement, verify_each};
 pub use explanation::Explained;
 pub use files::{FileFault, FileRead, class_file};
 pub use frames_at::FramesAt;
+pub use judgements::{EachFault, Judgement, verify_each};
+pub use known_classes::{AmongFault, explain_among_under, verify_among, verify_among_under};
 pub use laws::{
     class_run_breadth, details_are_told, fits_breadth, frames_are_judged, map_details_are_told,
     map_refused_where, one_frames, one_report, one_verdict, refused_breaks, refused_where,
@@ -97,6 +98,5 @@ pub use report::{
     ClassFault, MethodVerdict, Report, verify_class, verify_class_under, verify_methods,
 };
 pub use theorem::{type_safe_is_safe, verified_is_playable};
-pub use classes_in_play::{TogetherFault, verify_together, verify_together_under};
 pub use verdict::{Verdict, VerifyFault};
 pub use verified_walk::{WalkFault, walk_verified};

@@ -49,7 +49,7 @@ declare-requires-clause-stack g c =
     let limit = ap (λ u. u.limit) c.in_ok-write_stack.ensures.rest ∙ limit_kept y z c.in_ok-write_locals.ensures.rest ∙ limit_kept x y c.in_ok-write_chop.ensures.rest in
     let fits = (c.judge_entry.ensures.fits c.in_default.is).1 in
     let short =
-        stack_fits z.types w.running.stack (stack_of pool (entry_of c.args.entry.now)) c.stack_units.result c.args.limits.now.max_stack (c.in_ok-write_stack.ensures.stack pool second) (c.stack_units.ensures pool) fits
+    stack_fits z.types w.running.stack (stack_of pool (entry_of c.args.entry.now)) c.stack_units.result c.args.limits.now.max_stack (c.in_ok-write_stack.ensures.stack pool second) (c.stack_units.ensures pool) fits
     in
     flag_stacks w c.set_flag.new.self c.have_own.result c.set_flag.ensures (omega (arith, short, limit, c.requires.max_stack))
 

@@ -20,8 +20,8 @@ append_all-requires-clause-fits g c =
     let pool = c.requires.table.0 in
     let before = c.args.locals.now in
     let written =
-        locals_written s pool c.in-Append.infos.items c.deref.result.now c.in_ok-numbers-in-Append.numbers.items c.deref-in-Append.result.now c.deref.ensures.value c.deref-in-Append.ensures.value
-        (c.in_ok-numbers-in-Append.ensures s pool c.requires.table.1) before (before ++ c.deref-in-Append.result.now) refl
+    locals_written s pool c.in-Append.infos.items c.deref.result.now c.in_ok-numbers-in-Append.numbers.items c.deref-in-Append.result.now c.deref.ensures.value c.deref-in-Append.ensures.value
+    (c.in_ok-numbers-in-Append.ensures s pool c.requires.table.1) before (before ++ c.deref-in-Append.result.now) refl
     in
     subst (λ ts. units_of ts ≤ length c.args.frames.now.running.locals) (sym written)
     (subst (λ e. units_of (locals_behind pool (entry_of e) (types_by s before)) ≤ length c.args.frames.now.running.locals) c.in-Append.is (c.requires.fits pool))
@@ -38,8 +38,8 @@ change_all-requires-clause-fits g c =
     let s = c.args.frames.now.types in
     let pool = c.requires.table.0 in
     let written =
-        shown_types s pool c.in-Full.infos.items c.deref-in-Full.result.now c.in_ok-numbers-in-Full.numbers.items c.deref-in-Full-2.result.now c.deref-in-Full.ensures.value c.deref-in-Full-2.ensures.value
-        (c.in_ok-numbers-in-Full.ensures s pool c.requires.table.1)
+    shown_types s pool c.in-Full.infos.items c.deref-in-Full.result.now c.in_ok-numbers-in-Full.numbers.items c.deref-in-Full-2.result.now c.deref-in-Full.ensures.value c.deref-in-Full-2.ensures.value
+    (c.in_ok-numbers-in-Full.ensures s pool c.requires.table.1)
     in
     subst (λ ts. units_of ts ≤ length c.args.frames.now.running.locals) (sym written)
     (subst (λ e. units_of (locals_behind pool (entry_of e) (types_by s c.args.locals.now)) ≤ length c.args.frames.now.running.locals) c.in-Full.is (c.requires.fits pool))
@@ -55,7 +55,7 @@ pub returns-in_ok-numbers-in-Full-clause-locals : goal.returns-in_ok-numbers-in-
 returns-in_ok-numbers-in-Full-clause-locals g c pool table =
     let s = c.args.frames.now.types in
     let written =
-        shown_types s pool c.in-Full.infos.items c.deref-in-Full.result.now c.in_ok-numbers-in-Full.numbers.items c.deref-in-Full-2.result.now c.deref-in-Full.ensures.value c.deref-in-Full-2.ensures.value
-        (c.in_ok-numbers-in-Full.ensures s pool table)
+    shown_types s pool c.in-Full.infos.items c.deref-in-Full.result.now c.in_ok-numbers-in-Full.numbers.items c.deref-in-Full-2.result.now c.deref-in-Full.ensures.value c.deref-in-Full-2.ensures.value
+    (c.in_ok-numbers-in-Full.ensures s pool table)
     in
     rw c.in-Full.is (on_ok_weaker c.change_all.result (λ e. ap (types_by s) e ∙ written) c.change_all.ensures.locals)

@@ -32,6 +32,6 @@ pub returns-in-SameWithItem-clause-stack : goal.returns-in-SameWithItem-clause-s
 returns-in-SameWithItem-clause-stack g c pool table =
     let s = c.args.frames.now.types in
     let written =
-        on_ok_weaker c.push.result (item_written s c.number_given.result (type_given pool (info_of c.in-SameWithItem.item)) c.clear_stack.new.self c.push.new.self (c.number_given.ensures s pool table) (ap (λ y. y.running.stack) c.clear_stack.ensures)) c.push.ensures.ok
+    on_ok_weaker c.push.result (item_written s c.number_given.result (type_given pool (info_of c.in-SameWithItem.item)) c.clear_stack.new.self c.push.new.self (c.number_given.ensures s pool table) (ap (λ y. y.running.stack) c.clear_stack.ensures)) c.push.ensures.ok
     in
     elim c.in-SameWithItem.is [ inl e ↦ rw e.1 written | inr e ↦ rw e.1 written ]
