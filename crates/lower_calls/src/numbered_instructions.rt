@@ -314,9 +314,9 @@ fn holds_among<'n, C: Classes>(
     let mut types = TypeNumbers::new(alloc, classes, hasher());
     let n = standard_numbers(&method, &mut types)?;
     let table = ConstantTable::new(alloc, &method.class.constant_pool, &mut types)?;
-    if method.result_type.is_some() {
+    let None = method.result_type else {
         return Ok(false);
-    }
+    };
     let numbers = RuleNumbers {
         table: &table,
         object: n.object,
