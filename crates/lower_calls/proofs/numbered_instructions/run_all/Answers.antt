@@ -1,7 +1,7 @@
 use Rattle.std.proofs.Common.{◌∙◌, sym, subst}
 use Rattle.rules.specs.Bodies.{method_view}
 use Rattle.numbered_rules.specs.Running.{AreRuleNumbers}
-use Rattle.numbered_rules.proofs.Taking.{running_same, running_then, types_stay}
+use Rattle.numbered_rules.proofs.Taking.{running_same, types_stay}
 use Rattle.lower_calls.proofs.numbered_instructions.run_all.Goals as goal
 
 pub loop-act-init : goal.loop-act-init
