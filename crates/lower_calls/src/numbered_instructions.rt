@@ -1,7 +1,7 @@
 //! Instructions on frames by numbers, in an instance initialization method.
 ghost use Rattle.std.specs.Prelude.{◌≡◌, false, true, length, IfOk};
 ghost use Rattle.classfile.specs.Methods.{Method};
-ghost use Rattle.insn.specs.Meanings.{Act};
+ghost use Rattle.insn.specs.Meanings as meanings;
 ghost use Rattle.insn.specs.Views.{act_view};
 ghost use Rattle.names.specs.StandardNames.{object_name, throwable_name};
 ghost use Rattle.frames.specs.VerificationType.{class};
@@ -11,7 +11,7 @@ ghost use Rattle.numbered_rules.specs.Expected.{objects};
 ghost use Rattle.numbered_rules.specs.Held.{IsRunning};
 ghost use Rattle.numbered_rules.specs.Running.{constructs_nothing, AreRuleNumbers};
 
-use crate::making::{array, cloneable, hasher};
+use crate::making::{cloneable, hasher};
 use classfile::{ClassFile, CodeMethod, Formed, decode, form_check};
 use format_calls::making::OUT_OF_MEMORY;
 use frames::VType;
@@ -179,7 +179,7 @@ struct Standard {
 }
 
 /// Gives these types their numbers.
-fn standard<'n, C: Classes, S: BuildHasher + Drop>(
+fn standard_numbers<'n, C: Classes, S: BuildHasher + Drop>(
     method: &CodeMethod<'_, 'n>,
     types: &mut TypeNumbers<'_, 'n, C, S>,
 ) -> Result<Standard, AllocError>
@@ -189,7 +189,10 @@ fn standard<'n, C: Classes, S: BuildHasher + Drop>(
     ensures class { IfOk result (λ n. IsNumber types.new n.class (class (method_view method.now).class)) }
 {
     let object = types.number(&VType::Class(OBJECT))?;
-    let objects = types.number(&array(1, Base::Class(OBJECT)))?;
+    let objects = types.number(&VType::Array {
+        dims: 1,
+        base: Base::Class(OBJECT),
+    })?;
     let throwable = types.number(&VType::Class(THROWABLE))?;
     let class = types.number(&VType::Class(own_class(method)))?;
     Ok(Standard {
@@ -222,7 +225,7 @@ fn run_all<'n, C: Classes, S: BuildHasher>(
 
 /// Whether an instruction may construct an object: `new` and `invokespecial`.
 fn may_construct(act: &Act<'_>) -> bool
-    ensures { (m : Method Act) → result ≡ false → constructs_nothing m (act_view act.now) ≡ true }
+    ensures { (m : Method meanings.Act) → result ≡ false → constructs_nothing m (act_view act.now) ≡ true }
 {
     match *act {
         Act::New { .. } | Act::InvokeSpecial { .. } => true,
@@ -309,11 +312,11 @@ fn holds_among<'n, C: Classes>(
         return Ok(false);
     };
     let mut types = TypeNumbers::new(alloc, classes, hasher());
-    let n = standard(&method, &mut types)?;
+    let n = standard_numbers(&method, &mut types)?;
     let table = ConstantTable::new(alloc, &method.class.constant_pool, &mut types)?;
-    if method.result_type.is_some() {
+    let None = method.result_type else {
         return Ok(false);
-    }
+    };
     let numbers = RuleNumbers {
         table: &table,
         object: n.object,
