@@ -1,4 +1,5 @@
 pub mod Given
+pub mod Listing
 pub mod Knowing
 pub mod Answering
 pub mod Walking

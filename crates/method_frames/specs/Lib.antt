@@ -1,3 +1,4 @@
+pub mod Objects
 pub mod TypeRows
 pub mod NumberedStacks
 pub mod NumberedFrames

@@ -1,17 +1,21 @@
 //! The frames of one method, with types by their numbers: the running frame, which instructions change, and the
 //! declared frames, which stay as they are.
 //!
+//! - `holders`: the places that came to hold objects that are not initialized.
 //! - `items`: the items of an operand stack.
 //! - `method`: the frames of a method, put together of the others.
 //! - `moves`: items as the instructions for the stack move them.
+//! - `objects`: objects that are not initialized, by their numbers.
 //! - `stack_rows`: operand stacks, of the running frame and of the declared frames, and the answer of one to another.
 //! - `type_rows`: rows of types, of the running frame and of the declared frames, and the answer of one to another.
 //! - `widths`: how many units types take.
 #![tactic(auto)]
 
+mod holders;
 mod items;
 mod method;
 mod moves;
+mod objects;
 mod stack_rows;
 mod type_rows;
 mod widths;
