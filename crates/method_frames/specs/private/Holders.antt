@@ -44,3 +44,10 @@ abbrev pub IsOpen : ℕ → ℕ → List ℕ → List ℕ → List ℕ → ℕ �
 IsOpen object by old new rest i =
     (slice_index new i ≡ replaced object by (slice_index old i))
     ⊎ ((slice_index new i ≡ slice_index old i) × (is_among rest (key_of object i) ≡ true) × (i < 4294967296))
+
+-- the running row has another number at places that changed, and nothing else changed
+pub record Replaces (by : ℕ) (old new : Rows) : Type 0 where
+  pub rest : new ≡ record old { running = new.running }
+  pub size : length new.running ≡ length old.running
+  pub each : (place : ℕ) → (slice_index new.running place ≡ slice_index old.running place)
+      ⊎ (slice_index new.running place ≡ by)
