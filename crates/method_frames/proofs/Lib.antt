@@ -1,6 +1,7 @@
 pub mod Given
 pub mod Listing
 pub mod Knowing
+pub mod Holding
 pub mod Answering
 pub mod Walking
 pub mod Counting
