@@ -1,12 +1,12 @@
 -- Rows of which the places that hold objects are listed, as they change.
-use Rattle.std.proofs.Common.{◌≡◌, ◌∙◌, ℕ, ◌+◌, ◌<◌, true, false, List, [], ◌∷◌, ◌++◌, length, replicate, set, get_or, Result, Ok, Err, OnOk, OnErr, refl, sym, ap, subst, inl, inr, ◌⊎◌, arith}
+use Rattle.std.proofs.Common.{◌≡◌, ◌∙◌, ℕ, ◌+◌, ◌≤◌, ◌<◌, Bool, true, false, cond, nat_eq, List, [], ◌∷◌, ◌++◌, length, map, take, replicate, set, get_or, Result, Ok, Err, OnOk, OnErr, refl, sym, ap, subst, inl, inr, ◌⊎◌, arith}
 use Rattle.std.proofs.lemmas.Bool.{cases_eq, cases_lt, true≢false}
-use Rattle.std.proofs.lemmas.List.{length-set, length-append, length-replicate, get_or-set_same, get_or-set_other, get_or_append_left, get_or_push, get_or-replicate}
+use Rattle.std.proofs.lemmas.List.{length-set, length-append, length-replicate, get_or-set_same, get_or-set_other, length-map, get_or_append_left, get_or_push, get_or-replicate, get_or-take, get_or-map}
 use Rattle.type_numbers.specs.Numbers.{Numbering, IsGiven}
 use Rattle.blocks.specs.Rows.{Rows, declared_row}
-use Rattle.method_frames.specs.Objects.{is_object}
+use Rattle.method_frames.specs.Objects.{is_object, replaced}
 use Rattle.method_frames.specs.private.Known.{AreKnown}
-use Rattle.method_frames.specs.private.Holders.{IsListed, AreListed, AreHeld, KeepsListed, Replaces}
+use Rattle.method_frames.specs.private.Holders.{IsListed, AreListed, AreListedFrom, AreHeld, KeepsListed, Replaces}
 use Rattle.method_frames.specs.declared.holders.Holders.{Holders}
 use Rattle.method_frames.proofs.Knowing.{at_more, tops_known, taken_known, declared_known, put_known}
 
@@ -60,15 +60,15 @@ declared_held s old new (Ok u) x h ok err = subst (λ rows. AreHeld s rows x) (s
 declared_held s old new (Err e) x h ok err = subst (λ rows. AreHeld s rows x) (sym err) h
 
 -- places come to hold a number that is none of an object
-module _ (s : Numbering) (by : ℕ) (old new : Rows) (x : Holders) (r : Replaces by old new) where
-  given_each : (i : ℕ) → (get_or new.running i 0 ≡ get_or old.running i 0) ⊎ (get_or new.running i 0 ≡ by) → IsGiven s (get_or old.running i 0) → IsGiven s by → IsGiven s (get_or new.running i 0)
+module _ (s : Numbering) (object by : ℕ) (old new : Rows) (x : Holders) (r : Replaces object by old new) where
+  given_each : (i : ℕ) → (get_or new.running i 0 ≡ get_or old.running i 0) ⊎ ((get_or old.running i 0 ≡ object) × (get_or new.running i 0 ≡ by)) → IsGiven s (get_or old.running i 0) → IsGiven s by → IsGiven s (get_or new.running i 0)
   given_each i (inl e) a b = subst (IsGiven s) (sym e) a
-  given_each i (inr e) a b = subst (IsGiven s) (sym e) b
+  given_each i (inr e) a b = subst (IsGiven s) (sym e.1) b
 
-  listed_each : (i : ℕ) → (get_or new.running i 0 ≡ get_or old.running i 0) ⊎ (get_or new.running i 0 ≡ by) → is_object by ≡ false
+  listed_each : (i : ℕ) → (get_or new.running i 0 ≡ get_or old.running i 0) ⊎ ((get_or old.running i 0 ≡ object) × (get_or new.running i 0 ≡ by)) → is_object by ≡ false
       → (is_object (get_or old.running i 0) ≡ true → IsListed x (get_or old.running i 0) i) → is_object (get_or new.running i 0) ≡ true → IsListed x (get_or new.running i 0) i
   listed_each i (inl e) n a o = subst (λ m. IsListed x m i) (sym e) (a (sym (ap is_object e) ∙ o))
-  listed_each i (inr e) n a o = absurd (true≢false (sym o ∙ ap is_object e ∙ n))
+  listed_each i (inr e) n a o = absurd (true≢false (sym o ∙ ap is_object e.1 ∙ n))
 
   pub replaced_held : is_object by ≡ false → IsGiven s by → AreHeld s old x → AreHeld s new x
   replaced_held none given h =
@@ -93,3 +93,41 @@ noted_held s old new x known running declared h = record {
   running = subst (AreListed x) (sym running) h.running;
   declared = λ row lt. subst (λ ds. AreListed x (get_or ds row [])) (sym declared) (h.declared row (subst (λ ds. row < length ds) declared lt));
 }
+
+-- an item more on top
+pub listed_push : (x : Holders) (row : List ℕ) (n : ℕ) → AreListed x row → (is_object n ≡ true → IsListed x n (length row)) → AreListed x (row ++ n ∷ [])
+listed_push x row n all h k lt o =
+    let long = length-append row (n ∷ []) in
+    elim (cases_lt k (length row)) [
+      | inl less ↦ (let same = get_or_append_left row (n ∷ []) 0 k less in subst (λ m. IsListed x m k) (sym same) (all k less (sym (ap is_object same) ∙ o)))
+      | inr more ↦ (let here : k ≡ length row = omega (arith, lt, long, more) in let same = get_or_push row n 0 k (sym here) in
+          subst (λ m. IsListed x m k) (sym same) (subst (λ j. IsListed x n j) (sym here) (h (sym (ap is_object same) ∙ o))))
+    ]
+
+pub listed_pop : (x : Holders) (row : List ℕ) (n : ℕ) → AreListed x (row ++ n ∷ []) → AreListed x row
+listed_pop x row n all k lt o =
+    let same = get_or_append_left row (n ∷ []) 0 k lt in
+    let long = length-append row (n ∷ []) in
+    subst (λ m. IsListed x m k) same (all k (omega (arith, lt, long)) (ap is_object same ∙ o))
+
+-- the items below a place are as they were, and those from it up are listed
+pub listed_parts : (x y : Holders) (old new : List ℕ) (from : ℕ) → KeepsListed x y → AreListed x old → from ≤ length old → take from new ≡ take from old → AreListedFrom from y new → AreListed y new
+listed_parts x y old new from kept all within same above k lt o = elim (cases_lt k from) [
+  | inl less ↦ (let e : get_or new k 0 ≡ get_or old k 0 = sym (get_or-take from new k 0 less) ∙ ap (λ r. get_or r k 0) same ∙ get_or-take from old k 0 less in
+      subst (λ m. IsListed y m k) (sym e) (kept (get_or old k 0) k (all k (omega (arith, less, within)) (sym (ap is_object e) ∙ o))))
+  | inr le ↦ above k le lt o
+]
+
+pub listed_map : (x : Holders) (row : List ℕ) (object by : ℕ) → is_object by ≡ false → AreListed x row → AreListed x (map (replaced object by) row)
+listed_map x row object by none all k lt o =
+    let long = length-map row (replaced object by) in
+    let inside : k < length row = omega (arith, lt, long) in
+    let here = get_or-map (replaced object by) row k 0 0 inside in
+    which (nat_eq (get_or row k 0) object) refl here
+  where
+    which : (b : Bool) → nat_eq (get_or row k 0) object ≡ b → get_or (map (replaced object by) row) k 0 ≡ cond (nat_eq (get_or row k 0) object) by (get_or row k 0) → IsListed x (get_or (map (replaced object by) row) k 0) k
+    which true e h = absurd (true≢false (sym o ∙ ap is_object (h ∙ ap (λ b. cond b by (get_or row k 0)) e) ∙ none))
+    which false e h =
+        let same = h ∙ ap (λ b. cond b by (get_or row k 0)) e in
+        let long = length-map row (replaced object by) in
+        subst (λ m. IsListed x m k) (sym same) (all k (omega (arith, lt, long)) (sym (ap is_object same) ∙ o))

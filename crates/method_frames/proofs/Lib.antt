@@ -2,6 +2,8 @@ pub mod Given
 pub mod Listing
 pub mod Knowing
 pub mod Holding
+pub mod ObjectNumbers
+pub mod Among
 pub mod Answering
 pub mod Walking
 pub mod Counting

@@ -1,5 +1,5 @@
 -- Objects that are not initialized (JVMS 4.10.1.9, new and invokespecial), by the numbers of their types.
-use Rattle.std.specs.Prelude.{ℕ, ◌+◌, ◌/◌, Bool, false, ◌||◌, nat_eq, if◌then◌else◌}
+use Rattle.std.specs.Prelude.{ℕ, ◌+◌, ◌/◌, Bool, false, ◌||◌, nat_eq, if◌then◌else◌, List, [], ◌∷◌}
 
 -- the number of the own object that is not initialized
 abbrev pub own_object : ℕ
@@ -12,6 +12,11 @@ made_object at = 134217728 + at
 -- the number is that of such an object
 abbrev pub is_object : ℕ → Bool
 is_object n = nat_eq (n / 16777216) 6 || nat_eq (n / 16777216) 8
+
+-- an object is among these
+abbrev pub holds : ℕ → List ℕ → Bool
+holds object [] = false
+holds object (n ∷ ns) = nat_eq n object || holds object ns
 
 -- another number takes the place of an object's
 abbrev pub replaced : ℕ → ℕ → ℕ → ℕ

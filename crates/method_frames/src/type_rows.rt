@@ -51,7 +51,7 @@ fn replace_listed(
 ) -> Result<(), AllocError>
     requires object { is_object object ≡ true }
     requires listed { AreListed holders.now rows.old.running }
-    ensures only { Replaces by rows.old rows.new }
+    ensures only { Replaces object by rows.old rows.new }
     ensures all { OnOk result (rows.new.running ≡ map (replaced object by) rows.old.running) }
 {
     for key in holders.of(object) {
@@ -138,7 +138,7 @@ impl<'t, 'c, 'n, C: Classes, S: BuildHasher> TypeRows<'t, 'c, 'n, C, S> {
         ensures size { length self.new.running ≡ length self.old.running }
         ensures ok { OnOk result (self.new.running ≡ map (replaced object by) self.old.running) }
         ensures each { (place : ℕ) → (slice_index self.new.running place ≡ slice_index self.old.running place)
-            ⊎ (slice_index self.new.running place ≡ by) }
+            ⊎ ((slice_index self.old.running place ≡ object) × (slice_index self.new.running place ≡ by)) }
     {
         replace_listed(object, by, &self.holders, &mut self.rows)
     }

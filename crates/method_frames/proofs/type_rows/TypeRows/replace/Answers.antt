@@ -7,4 +7,4 @@ pub invariant_of-self : goal.invariant_of-self
 invariant_of-self g c =
     let x = c.self.inside in
     let given = subst (λ y. IsGiven y.types c.args.by) (sym c.self.view_is) c.requires.given in
-    replaced_held x.types.now c.args.by x.rows c.replace_listed.new.rows x.holders c.replace_listed.ensures.only c.requires.by given c.self.invariant
+    replaced_held x.types.now c.args.object c.args.by x.rows c.replace_listed.new.rows x.holders c.replace_listed.ensures.only c.requires.by given c.self.invariant
