@@ -13,6 +13,7 @@ pub mod StackAnswers
 pub mod Heights
 pub mod Stacks
 pub mod StackComparing
+pub mod StackReplacing
 pub mod Offsets
 pub mod MethodParts
 pub mod ItemMoves
