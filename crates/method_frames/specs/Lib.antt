@@ -1,5 +1,5 @@
-pub mod Objects
 pub mod TypeRows
 pub mod NumberedStacks
 pub mod NumberedFrames
+pub mod Objects
 pub mod private

@@ -1,5 +1,8 @@
 -- Objects that are not initialized (JVMS 4.10.1.9, new and invokespecial), by the numbers of their types.
-use Rattle.std.specs.Prelude.{ℕ, ◌+◌, ◌/◌, Bool, false, ◌||◌, nat_eq, if◌then◌else◌, List, [], ◌∷◌}
+use Rattle.std.specs.Prelude.{ℕ, ◌+◌, ◌/◌, Bool, false, ◌||◌, nat_eq, if◌then◌else◌, List, [], ◌∷◌, map}
+use Rattle.frames.specs.VerificationType.{class}
+use Rattle.type_numbers.specs.Numbers.{Numbering, IsNumber}
+use Rattle.method_frames.specs.NumberedFrames.{NumberedFrame}
 
 -- the number of the own object that is not initialized
 abbrev pub own_object : ℕ
@@ -25,3 +28,15 @@ replaced object by n = if nat_eq n object then by else n
 -- the own object is initialized with its replacement
 abbrev pub flag_after : ℕ → Bool → Bool
 flag_after object flag = if nat_eq object own_object then false else flag
+
+-- the frame in which an object, of which a constructor has returned, is of a class
+abbrev pub initialized : ℕ → ℕ → NumberedFrame → NumberedFrame
+initialized object by f = record {
+  locals = map (replaced object by) f.locals;
+  stack = map (replaced object by) f.stack;
+  flag = flag_after object f.flag;
+}
+
+-- the number was given to a class
+abbrev pub IsClassNumber : Numbering → ℕ → Type 0
+IsClassNumber s n = (name : List ℕ) × IsNumber s n (class name)
