@@ -386,6 +386,18 @@ impl<'t, 'c, 'n, C: Classes, S: BuildHasher> MethodFrames<'t, 'c, 'n, C, S> {
         both(locals, stack)
     }
 
+    /// The answer for a type where that of a local variable of a declared frame is wanted.
+    fn local_answer(&self, frame: usize, place: usize, number: u32) -> Answer<'n>
+        requires frame { frame < length self.now.declared }
+        requires given { IsGiven self.now.types number }
+        ensures { let s = self.now.types in outcome_of result ≡ type_answer s.classes (type_by s number)
+            (type_by s (slice_index (declared_frame self.now frame).locals place)) }
+    {
+        let declared = self.declared[frame];
+        let wanted = self.locals.declared(declared.locals, place);
+        self.types().assignable(number, wanted)
+    }
+
     /// Whether a type may stand for a local variable of a declared frame; each may where there is no such local. Takes no
     /// memory.
     pub fn takes(&self, frame: usize, place: usize, number: u32) -> bool
@@ -394,8 +406,6 @@ impl<'t, 'c, 'n, C: Classes, S: BuildHasher> MethodFrames<'t, 'c, 'n, C, S> {
         ensures { let s = self.now.types in IsTrue result ↔ (type_answer s.classes (type_by s number)
             (type_by s (slice_index (declared_frame self.now frame).locals place)) ≡ yes) }
     {
-        let declared = self.declared[frame];
-        let wanted = self.locals.declared(declared.locals, place);
-        matches!(self.types().assignable(number, wanted), Answer::Yes)
+        matches!(self.local_answer(frame, place, number), Answer::Yes)
     }
 }
