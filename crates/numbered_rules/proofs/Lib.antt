@@ -5,3 +5,9 @@ pub mod Taking
 pub mod Reading
 pub mod Setting
 pub mod Moving
+pub mod Judging
+pub mod Naming
+pub mod Elements
+pub mod Calling
+pub mod Loading
+pub mod Results

@@ -3,14 +3,22 @@ use Rattle.std.specs.Prelude.{◌≡◌, ℕ, List, [], ◌∷◌, Option, Some,
 use Rattle.std.specs.List.{All}
 use Rattle.hierarchy.specs.Class.{ClassFact}
 use Rattle.hierarchy.specs.Answer.{Outcome, yes, yes_if}
-use Rattle.frames.specs.VerificationType.{VerificationType, uninit_this}
+use Rattle.insn.specs.declared.operation.Kind.{Kind}
+use Rattle.insn.specs.declared.operation.Kind.TheVariants.{Int, Long, Float, Double}
+use Rattle.frames.specs.VerificationType.{VerificationType, array, uninit_this}
 use Rattle.frames.specs.Assignable.{type_answer}
 use Rattle.type_numbers.specs.Numbers.{Numbering, IsGiven}
 use Rattle.type_numbers.specs.Decoding.{type_by}
+use Rattle.names.specs.Descriptors.{class as class_descriptor}
+use Rattle.names.specs.StandardNames.{object_name}
 use Rattle.rules.specs.TypingRules.{ExpectedType}
 use Rattle.rules.specs.Rules.{accepts, is_array, is_array_for, is_reference}
 use Rattle.numbered_rules.specs.declared.expected.Expected.{Expected}
 use Rattle.numbered_rules.specs.declared.expected.Expected.TheVariants.{Assignable, Reference, Array, ArrayFor, OwnOr}
+
+-- the type of arrays of the class `Object`
+abbrev pub objects : VerificationType
+objects = array (class_descriptor object_name)
 
 -- the own object that is not initialized, or a type that is assignable to another
 abbrev pub own_or : List ClassFact → VerificationType → VerificationType → Outcome
@@ -33,6 +41,16 @@ IsExpected s _ = Unit {0}
 
 abbrev pub AreExpected : Numbering → List Expected → Type 0
 AreExpected s asked = All (IsExpected s) asked
+
+-- the number of the type of a kind, and what is asked of a number of this kind
+abbrev pub kind_number : Kind → ℕ
+kind_number Int = 16777216
+kind_number Float = 33554432
+kind_number Double = 50331648
+kind_number Long = 67108864
+
+abbrev pub number_asked : Kind → Expected
+number_asked kind = Assignable (kind_number kind)
 
 -- each type has one answer by both
 abbrev pub StandsFor : Numbering → Expected → ExpectedType → Type 0

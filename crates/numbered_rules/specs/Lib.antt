@@ -1,3 +1,4 @@
 pub mod Expected
 pub mod Held
 pub mod private
+pub mod Running

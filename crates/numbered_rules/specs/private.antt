@@ -1,2 +1,5 @@
 -- Words of the code's own steps, which its private contracts use: nothing that a reader must believe rests on them.
 pub mod Kinds
+pub mod Named
+pub mod Loading
+pub mod Calls

@@ -1,12 +1,12 @@
 //! Instructions that take operands off the stack and push a result, and the loads and stores of numbers and references.
 ghost use Rattle.std.specs.Prelude.{◌≡◌, [], ◌∷◌, true, length};
-ghost use Rattle.insn.specs.Acts.{kind_units};
+ghost use Rattle.insn.specs.Acts.{kind_units, numeric_row};
 ghost use Rattle.insn.specs.declared.operation.Kind.TheVariants.{Int};
 ghost use Rattle.frames.specs.Slots.{number_type};
 ghost use Rattle.frames.specs.VerificationType.{class, int, null};
 ghost use Rattle.names.specs.StandardNames.{throwable_name};
 ghost use Rattle.type_numbers.specs.Numbers.{IsNumber};
-ghost use Rattle.rules.specs.TypingRules.{number, any_reference, any_array, expected_class, pops, gives, loads, stores, takes};
+ghost use Rattle.rules.specs.TypingRules.{number, numbers, any_reference, any_array, expected_class, pops, gives, loads, stores, takes};
 ghost use Rattle.rules.specs.Table.{leaves_with};
 ghost use Rattle.rules.specs.After.{after};
 ghost use Rattle.rules.specs.Rules.{conditions};
@@ -15,12 +15,12 @@ ghost use Rattle.rules.specs.Outcomes.{Done};
 ghost use Rattle.numbered_rules.specs.Held.{held, IsRunning};
 
 use crate::expected::Expected;
-use crate::families::{gives, loads, pops};
+use crate::families::{gives, judge_left, loads, pops};
 use crate::kinds::{INT, NULL, number_of};
 use crate::storing::stores;
 use classfile::CodeMethod;
-use hierarchy::Classes;
-use insn::Kind;
+use hierarchy::{Answer, Classes};
+use insn::{Kind, NumericOperator};
 use method_frames::MethodFrames;
 use rules::Reason;
 use std::hash::BuildHasher;
@@ -35,7 +35,7 @@ pub fn takes_nothing<'n, C: Classes, S: BuildHasher>(
         Done (conditions frames.old.types.classes m 0 p f) (after m 0 p f) (held frames.new) result }
     ensures rest { IsRunning frames.old frames.new }
 {
-    pops(method, &[], None, frames)
+    judge_left(method, Answer::Yes, frames)
 }
 
 /// Pushes a number of a kind: `iconst_0` and its like
@@ -63,6 +63,21 @@ pub fn gives_null<'n, C: Classes, S: BuildHasher>(
     ensures rest { IsRunning frames.old frames.new }
 {
     gives(method, NULL, frames)
+}
+
+/// Takes numbers and pushes a number: `iadd` and its like
+pub fn computes<'n, C: Classes, S: BuildHasher>(
+    method: &CodeMethod<'_, '_>,
+    operator: NumericOperator,
+    frames: &mut MethodFrames<'_, '_, 'n, C, S>,
+) -> Result<(), Reason<'n>>
+    ensures done { let m = method_view method.now in let f = held frames.old in
+        let p = pops (numbers (numeric_row operator).taken) (number_type (numeric_row operator).given ∷ []) [] true in
+        Done (conditions frames.old.types.classes m 0 p f) (after m 0 p f) (held frames.new) result }
+    ensures rest { IsRunning frames.old frames.new }
+{
+    let (taken, given) = operator.row();
+    pops(method, taken, Some(number_of(given)), frames)
 }
 
 /// Takes an `int` that is compared with 0, or is the key of a switch.

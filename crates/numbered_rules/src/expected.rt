@@ -4,7 +4,8 @@ ghost use Rattle.hierarchy.specs.Answer.{outcome_of};
 ghost use Rattle.type_numbers.specs.Numbers.{Numbering, IsGiven};
 ghost use Rattle.type_numbers.specs.Decoding.{type_by};
 ghost use Rattle.rules.specs.TypingRules.{number};
-ghost use Rattle.numbered_rules.specs.Expected.{accepts_by, IsExpected, StandsFor};
+ghost use Rattle.numbered_rules.specs.declared.expected.Expected.{Expected};
+ghost use Rattle.numbered_rules.specs.Expected.{accepts_by, number_asked, IsExpected, StandsFor};
 ghost use Rattle.numbered_rules.specs.private.Kinds.{is_array_by, is_array_for_by, is_own_by, is_reference_by};
 
 use crate::kinds::number_of;
@@ -30,8 +31,34 @@ pub enum Expected {
     OwnOr(u32),
 }
 
+/// A type whose values stand for expected types.
+pub trait Asked: Copy {
+    ghost asked: { Self → Expected };
+
+    /// The expected type that it stands for.
+    fn expected(&self) -> Expected
+        ensures { result ≡ asked self.now };
+}
+
+impl Asked for Expected {
+    ghost asked = { λ e. e };
+
+    fn expected(&self) -> Expected {
+        *self
+    }
+}
+
+/// A kind stands for a number of this kind.
+impl Asked for Kind {
+    ghost asked = { number_asked };
+
+    fn expected(&self) -> Expected {
+        Expected::number(*self)
+    }
+}
+
 /// Whether a type is that of a reference, initialized or not, by the parts of its number.
-fn is_reference(parts: Parts) -> bool
+pub fn is_reference(parts: Parts) -> bool
     ensures { result ≡ is_reference_by parts.tag }
 {
     parts.tag > 4
@@ -63,6 +90,7 @@ fn is_own(parts: Parts) -> bool
 impl Expected {
     /// A number of a kind.
     pub fn number(kind: Kind) -> Expected
+        ensures is { result ≡ number_asked kind }
         ensures stands { (s : Numbering) → StandsFor s result (number kind) }
         ensures given { (s : Numbering) → IsExpected s result }
     {

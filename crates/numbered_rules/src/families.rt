@@ -1,5 +1,5 @@
 //! Families of rules: operands to a result, loads and increments.
-ghost use Rattle.std.specs.Prelude.{◌≡◌, ◌≤◌, List, [], ◌∷◌, true, length, nat_lt, IfSome};
+ghost use Rattle.std.specs.Prelude.{◌≡◌, ◌≤◌, List, [], ◌∷◌, true, length, map, nat_lt, IfSome};
 ghost use Rattle.std.specs.List.{AllZip};
 ghost use Rattle.hierarchy.specs.Answer.{outcome_of};
 ghost use Rattle.frames.specs.Slots.{units_of};
@@ -13,7 +13,7 @@ ghost use Rattle.rules.specs.Outcomes.{Done, pushed, settled};
 ghost use Rattle.numbered_rules.specs.Expected.{AreExpected, IsExpected, StandsFor, types_given};
 ghost use Rattle.numbered_rules.specs.Held.{held, IsRunning};
 
-use crate::expected::Expected;
+use crate::expected::{Asked, Expected};
 use crate::kinds::INT;
 use crate::operands::take;
 use classfile::CodeMethod;
@@ -99,16 +99,16 @@ pub fn gives<'n, C: Classes, S: BuildHasher>(
 
 /// Pops operands of the expected types, the top one first, and pushes a result (JVMS 4.10.1.9). Its refusals are 61
 /// and 62, those of [`judge_left`], and 1 where memory runs out.
-pub fn pops<'n, C: Classes, S: BuildHasher>(
+pub fn pops<'n, A: Asked, C: Classes, S: BuildHasher>(
     method: &CodeMethod<'_, '_>,
-    asked: &[Expected],
+    asked: &[A],
     gives: Option<u32>,
     frames: &mut MethodFrames<'_, '_, 'n, C, S>,
 ) -> Result<(), Reason<'n>>
-    requires asked { AreExpected frames.old.types asked.now }
+    requires asked { AreExpected frames.old.types (map A.asked asked.now) }
     requires gives { IfSome gives (IsGiven frames.old.types) }
     ensures done { let s = frames.old.types in let m = method_view method.now in let f = held frames.old in
-        (ws : List ExpectedType) → AllZip (StandsFor s) asked.now ws
+        (ws : List ExpectedType) → AllZip (StandsFor s) (map A.asked asked.now) ws
         → let p = pops ws (types_given s gives) [] true in
         Done (conditions s.classes m 0 p f) (after m 0 p f) (held frames.new) result }
     ensures rest { IsRunning frames.old frames.new }

@@ -1,6 +1,8 @@
 //! The numbers of the types that every method may name.
+ghost use Rattle.std.specs.Prelude.{◌≡◌};
 ghost use Rattle.frames.specs.Slots.{number_type};
 ghost use Rattle.type_numbers.specs.Numbers.{Numbering, IsNumber};
+ghost use Rattle.numbered_rules.specs.Expected.{kind_number};
 
 use insn::Kind;
 
@@ -19,7 +21,8 @@ pub const NULL: u32 = 0x0500_0000;
 
 /// The number of the type of a kind.
 pub fn number_of(kind: Kind) -> u32
-    ensures { (s : Numbering) → IsNumber s result (number_type kind) }
+    ensures is { result ≡ kind_number kind }
+    ensures given { (s : Numbering) → IsNumber s result (number_type kind) }
 {
     match kind {
         Kind::Int => INT,

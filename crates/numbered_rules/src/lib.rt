@@ -3,11 +3,13 @@
 //! specs/After.antt there), for the types that the numbers stand for. Each call changes the running frame in place, and
 //! nothing else of the frames. The calls to know are [`Expected::meets`] and [`pops`].
 //!
+//! - `arrays`: instructions that make arrays of primitive types, and read and write elements of arrays.
 //! - `computing`: plain instructions, each with a function of its own.
 //! - `expected`: the expected types of operands, and whether a type meets one.
 //! - `families`: what several families of instructions share; loads and increments.
 //! - `kinds`: the numbers of the types that every method may name.
 //! - `operands`: how operands are taken.
+//! - `returning`: returns.
 //! - `slots`: local variables in place; `storing`: stores to them.
 //! - `stacks`: instructions that move items of the stack, such as `dup` and `swap`.
 //!
@@ -15,23 +17,46 @@
 //! for; `specs/Held.antt` the frame that the running frame stands for.
 #![tactic(auto)]
 
+mod arguments;
+mod arrays;
+mod calls;
+mod class_names;
 mod computing;
+mod constants;
 mod expected;
 mod families;
+mod fields;
 mod kinds;
+mod named;
 mod operands;
+mod returning;
+mod rule_numbers;
+mod running;
 mod slots;
+mod special_calls;
 mod stacks;
 mod storing;
 
+pub use arguments::take_arguments;
+pub use arrays::{
+    load_element, load_reference_element, new_array, store_element, store_reference_element,
+};
+pub use calls::{invoke_dynamic, invoke_interface, invoke_static, invoke_virtual};
+pub use class_names::{check_cast, instance_of, new_multi_array, new_reference_array};
 pub use computing::{
-    array_length, gives_null, gives_number, loads_number, loads_reference, stores_number,
+    array_length, computes, gives_null, gives_number, loads_number, loads_reference, stores_number,
     stores_reference, takes_int, takes_ints, takes_nothing, takes_reference, takes_references,
     throws,
 };
-pub use expected::Expected;
+pub use constants::{load_constant, load_wide_constant};
+pub use expected::{Asked, Expected};
 pub use families::{counts, give, gives, judge_left, loads, pops, settle};
+pub use fields::{get_field, get_static, put_field, put_static};
 pub use kinds::{DOUBLE, FLOAT, INT, LONG, NULL, TOP, number_of};
 pub use operands::take;
+pub use returning::{return_nothing, return_number, return_reference};
+pub use rule_numbers::{NamedFacts, RuleNumbers};
+pub use running::{run, run_plain};
+pub use special_calls::invoke_special;
 pub use stacks::rearranges;
 pub use storing::stores;

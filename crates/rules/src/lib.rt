@@ -98,6 +98,7 @@ pub use declaring_class::own_class;
 pub use environment::Env;
 pub use expected::ExpectedType;
 pub use expected_types::{ExpectedLocal, ExpectedTypes};
+pub use families::number_of_result;
 pub use kept_items::{items_kept, items_kept_plainly};
 pub use members::Members;
 pub use merging::{first_reason, together};

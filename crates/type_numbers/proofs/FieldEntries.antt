@@ -23,7 +23,7 @@ use Rattle.type_numbers.specs.declared.text_numbers.Form.TheVariants.{ClassName,
 use Rattle.type_numbers.specs.Numbers.{Numbering, IsNumber, IsNumberOf, Extends}
 use Rattle.type_numbers.specs.Constants.{field_class, field_held, loaded_type}
 use Rattle.type_numbers.specs.private.Readings.{text_type, type_in}
-use Rattle.type_numbers.specs.private.Entries.{IsEntryDescribed, class_as, loaded_as, class_by, field_by, field_of, texts_by, member_texts}
+use Rattle.type_numbers.specs.private.Entries.{IsEntryDescribed, class_as, loaded_as, class_by, field_by, field_of, member_name, name_by, texts_by, member_texts}
 use Rattle.type_numbers.proofs.Dimensions.{class_flat, array_dims}
 use Rattle.type_numbers.proofs.LawsOfNumbers.{number_stays}
 
@@ -44,8 +44,8 @@ class_types pool name = by (text_at pool name)
 
 module _ (s : Numbering) (row : List ℕ) (pool : List Entry) (name : ℕ) where
   pub class_described : (n : Option ℕ) (l : ℕ) → IsNumberOf s n (type_in ClassName pool name) → IsNumber s l (of_class class_name) → IsEntryDescribed s row pool (entries.Class name) (class_as n l)
-  class_described None l h k = record { class = subst (IsNumberOf s None) (class_types pool name) h; field_class = tt; field_held = tt; method_interface = refl; method_class = tt; method_types = tt; loaded = k; computed = tt; site = tt }
-  class_described (Some n) l h k = record { class = subst (IsNumberOf s (Some n)) (class_types pool name) h; field_class = tt; field_held = tt; method_interface = refl; method_class = tt; method_types = tt; loaded = k; computed = tt; site = tt }
+  class_described None l h k = record { class = subst (IsNumberOf s None) (class_types pool name) h; field_class = tt; field_held = tt; method_interface = refl; method_init = refl; method_class = tt; method_types = tt; loaded = k; computed = tt; site_special = refl; site = tt }
+  class_described (Some n) l h k = record { class = subst (IsNumberOf s (Some n)) (class_types pool name) h; field_class = tt; field_held = tt; method_interface = refl; method_init = refl; method_class = tt; method_types = tt; loaded = k; computed = tt; site_special = refl; site = tt }
 
 -- ---- a Fieldref
 
@@ -127,6 +127,7 @@ module _ (pool : List Entry) (class name_and_type : ℕ) where
   pub record HasTexts (name descriptor : ℕ) : Type 0 where
     pub field_name : List ℕ
     pub is : member pool class name_and_type ≡ member_by (text_at pool name) (Ok field_name) (text_at pool descriptor)
+    pub name_is : member_name pool name_and_type ≡ Some field_name
 
   abbrev texts_of : Result Entry PoolFault → Result Entry PoolFault → Option (ℕ × ℕ)
   texts_of c n = texts_by (found c) (found n) (λ i. found (text_at pool i))
@@ -146,6 +147,7 @@ module _ (pool : List Entry) (class name_and_type : ℕ) where
                 field_name = t;
                 is = member_is pool class name_and_type ∙ ap₂ (member_of pool class name_and_type) p q ∙ member_named pool class name_and_type c n d
                     ∙ (λ i. member_by (text_at pool (same i)) (is i) (text_at pool (other i)));
+                name_is = ap (λ r. name_by (found r) (λ i. found (text_at pool i))) q ∙ ap found is;
               }
       by (Ok (entries.Class c)) p _ q e = absurd (none_some e)
       by _ p _ q e = absurd (none_some e)
@@ -181,12 +183,12 @@ module _ (pool : List Entry) (class name_and_type : ℕ) where
       class = tt;
       field_class = subst (IsNumberOf s None) (sym (class_is ∙ c)) tt;
       field_held = subst (IsNumberOf s None) (sym (held_is ∙ h)) tt;
-      method_interface = refl;
+      method_interface = refl; method_init = refl;
       method_class = tt;
       method_types = tt;
       loaded = tt;
       computed = tt;
-      site = tt;
+      site_special = refl; site = tt;
     }
 
     none_of : (o : Option ReferenceType) → IsNumberOf s None (option_map to_reference o) → o ≡ None
@@ -226,12 +228,12 @@ module _ (pool : List Entry) (class name_and_type : ℕ) where
           class = tt;
           field_class = subst (IsNumberOf s (Some n)) (sym (class_is ∙ ap₂ class_part e f)) h;
           field_held = subst (IsNumberOf s (Some m)) (sym (held_is ∙ ap₂ held_part e f)) k;
-          method_interface = refl;
+          method_interface = refl; method_init = refl;
           method_class = tt;
           method_types = tt;
           loaded = tt;
           computed = tt;
-          site = tt;
+          site_special = refl; site = tt;
         }
 
     pub described : (n m : Option ℕ) → IsNumberOf s n (type_in ClassName pool name) → IsNumberOf s m held → IsEntryDescribed s row pool (entries.Fieldref class name_and_type) (field_of n m)
@@ -250,12 +252,12 @@ no_field s row pool class name_and_type none =
       class = tt;
       field_class = subst (IsNumberOf s None) (sym (ap (option_map field_class) e)) tt;
       field_held = subst (IsNumberOf s None) (sym (ap (option_map field_held) e)) tt;
-      method_interface = refl;
+      method_interface = refl; method_init = refl;
       method_class = tt;
       method_types = tt;
       loaded = tt;
       computed = tt;
-      site = tt;
+      site_special = refl; site = tt;
     }
 
 -- ---- the others
@@ -276,5 +278,5 @@ other_described s row pool (constants.Methodref x y) n p h = absurd (p.no_method
 other_described s row pool (constants.InterfaceMethodref x y) n p h = absurd (p.no_interface_method x y refl)
 other_described s row pool (constants.Dynamic x y) n p h = absurd (p.no_dynamic x y refl)
 other_described s row pool (constants.InvokeDynamic x y) n p h = absurd (p.no_site x y refl)
-other_described s row pool _ None p h = record { class = tt; field_class = tt; field_held = tt; method_interface = refl; method_class = tt; method_types = tt; loaded = h; computed = tt; site = tt }
-other_described s row pool _ (Some n) p h = record { class = tt; field_class = tt; field_held = tt; method_interface = refl; method_class = tt; method_types = tt; loaded = h; computed = tt; site = tt }
+other_described s row pool _ None p h = record { class = tt; field_class = tt; field_held = tt; method_interface = refl; method_init = refl; method_class = tt; method_types = tt; loaded = h; computed = tt; site_special = refl; site = tt }
+other_described s row pool _ (Some n) p h = record { class = tt; field_class = tt; field_held = tt; method_interface = refl; method_init = refl; method_class = tt; method_types = tt; loaded = h; computed = tt; site_special = refl; site = tt }

@@ -5,7 +5,7 @@ use Rattle.std.proofs.lemmas.Bool.{eqb-true, true≢false}
 use Rattle.std.proofs.lemmas.Grind.{get_or-set_at}
 use Rattle.std.proofs.lemmas.List.{get_or-set_other, length-map, map-append, take-append-le, take_more}
 use Rattle.std.proofs.lemmas.Option.{get_or_from_slice_get, slice_get_read}
-use Rattle.names.specs.Descriptors.{MethodDescriptor}
+use Rattle.names.specs.Descriptors.{MethodDescriptor, method_width}
 use Rattle.names.specs.Reading.{method_answer}
 use Rattle.names.specs.Types.{type_of}
 use Rattle.names.specs.declared.descriptor.FieldType.{FieldType}
@@ -66,6 +66,7 @@ numbers_on old new more (n ∷ ns) [] h = h
 pub types_on : (old new : Numbering) → Extends old new → (row later : List ℕ) → GoesOn row later → (x : MethodNumbers) (m : MethodDescriptor) → AreTypes old row x m → AreTypes new later x m
 types_on old new more row later on x m h = subst (λ r. AreTypes new r x m) (sym on.1) (record {
   within = let a = h.within in let l = length-append row on.0 in omega arith;
+  width = h.width;
   arguments = subst (λ ns. AreNumbers new ns (map descriptor_type m.params)) (sym (arguments_stay x row on.0 h.within)) (numbers_on old new more (arguments_in row x) (map descriptor_type m.params) h.arguments);
   result = number_of_stays old new more x.result (option_map descriptor_type m.result) h.result;
 })
@@ -120,9 +121,10 @@ drop_row [] ns = refl
 drop_row (x ∷ row) ns = drop_row row ns
 
 pub pushed_types : (s : Numbering) (row later : List ℕ) (m : MethodDescriptor) (ns : List ℕ) → later ≡ row ++ ns → AreNumbers s ns (map descriptor_type m.params)
-    → (x : MethodNumbers) → x.start ≡ length row → x.count ≡ length ns → IsNumberOf s x.result (option_map descriptor_type m.result) → AreTypes s later x m
-pushed_types s row later m ns e h x start count result = record {
+    → (x : MethodNumbers) → x.start ≡ length row → x.count ≡ length ns → x.width ≡ method_width m false → IsNumberOf s x.result (option_map descriptor_type m.result) → AreTypes s later x m
+pushed_types s row later m ns e h x start count width result = record {
   within = let l = length-append row ns in let g = ap length e in omega arith;
+  width = width;
   arguments = subst (λ ks. AreNumbers s ks (map descriptor_type m.params)) (sym (ap₂ (λ k r. take x.count (drop k r)) start e ∙ ap (take x.count) (drop_row row ns) ∙ take_all ns x.count count)) h;
   result = result;
 }

@@ -1,7 +1,8 @@
 -- Dynamic and InvokeDynamic entries as they are to instructions, by the types of their descriptors.
-use Rattle.std.proofs.Common.{◌≡◌, ◌∙◌, ℕ, false, List, Option, Some, None, Result, Ok, Err, option_map, refl, sym, ap, subst}
-use Rattle.std.specs.Option.{option_and_then}
+use Rattle.std.proofs.Common.{◌≡◌, ◌∙◌, ℕ, Bool, false, List, Option, Some, None, Result, Ok, Err, option_map, refl, sym, ap, subst}
+use Rattle.std.specs.Option.{option_and_then, option_map_or}
 use Rattle.names.specs.Descriptors.{FieldDescriptor, MethodDescriptor}
+use Rattle.names.specs.Names.{less_than}
 use Rattle.names.specs.Reading.{method_answer}
 use Rattle.pool.specs.declared.fault.PoolFault.{PoolFault}
 use Rattle.pool.specs.Entries.{Entry}
@@ -9,14 +10,15 @@ use Rattle.pool.specs.Entries as entries
 use Rattle.pool.specs.Lookups.{and_then, entry_at, named, name_and_type_in, name_and_type_at, text_at}
 use Rattle.pool.specs.ConstantMeanings.{CallSite, found, dynamic_type, call_site, site_with}
 use Rattle.hierarchy.proofs.Names.{none_some, some_same}
+use Rattle.classfile.specs.Naming.{begins_with}
 use Rattle.type_numbers.specs.declared.method_numbers.MethodNumbers.{MethodNumbers}
 use Rattle.type_numbers.specs.declared.named_constant.NamedConstant.TheVariants.{Other}
 use Rattle.type_numbers.specs.declared.text_numbers.Form.TheVariants.{FieldDescriptor as Descriptor}
 use Rattle.type_numbers.specs.Numbers.{Numbering, IsNumberOf}
-use Rattle.type_numbers.specs.Constants.{Meaning, IsDescribed, site_type}
+use Rattle.type_numbers.specs.Constants.{Meaning, IsDescribed, site_special, site_type}
 use Rattle.type_numbers.specs.MethodNumbers.{AreTypesOf, method_in}
 use Rattle.type_numbers.specs.private.Readings.{text_type, type_in}
-use Rattle.type_numbers.specs.private.Entries.{IsEntryDescribed, descriptor_by, descriptor_index, dynamic_of, site_of}
+use Rattle.type_numbers.specs.private.Entries.{IsEntryDescribed, descriptor_by, descriptor_index, dynamic_of, is_special_named, member_name, name_by, site_of}
 use Rattle.type_numbers.proofs.FieldEntries.{named_by}
 
 -- ---- the texts of a NameAndType
@@ -26,6 +28,7 @@ module _ (pool : List Entry) (name_and_type : ℕ) where
   pub record HasDescriptor (descriptor : ℕ) : Type 0 where
     pub name : List ℕ
     pub is : name_and_type_at pool name_and_type ≡ named_by (Ok name) (text_at pool descriptor)
+    pub name_is : member_name pool name_and_type ≡ Some name
 
   stands : name_and_type_at pool name_and_type ≡ and_then (entry_at pool name_and_type) (name_and_type_in pool name_and_type)
   unfolding name_and_type_at
@@ -48,6 +51,7 @@ module _ (pool : List Entry) (name_and_type : ℕ) where
               record {
                 name = t;
                 is = stands ∙ ap (λ r. and_then r (name_and_type_in pool name_and_type)) p ∙ named_is n d ∙ (λ i. named_by (is i) (text_at pool (same i)));
+                name_is = ap (λ r. name_by (found r) (λ i. found (text_at pool i))) p ∙ ap found is;
               }
       by _ p e = absurd (none_some e)
 
@@ -69,13 +73,13 @@ computed t = record { class = None; field = None; method = None; loaded = None; 
 
 module _ (s : Numbering) (row : List ℕ) where
   computed_by_text : (d : Result (List ℕ) PoolFault) (name : List ℕ) (n : Option ℕ) → IsNumberOf s n (option_and_then (text_type Descriptor) (found d)) → IsDescribed s row (computed (option_and_then dynamic_type (found (named_by (Ok name) d)))) (dynamic_of n)
-  computed_by_text (Ok d) name None h = record { class = tt; field_class = tt; field_held = tt; method_interface = refl; method_class = tt; method_types = tt; loaded = tt; computed = h; site = tt }
-  computed_by_text (Ok d) name (Some n) h = record { class = tt; field_class = tt; field_held = tt; method_interface = refl; method_class = tt; method_types = tt; loaded = tt; computed = h; site = tt }
-  computed_by_text (Err e) name None h = record { class = tt; field_class = tt; field_held = tt; method_interface = refl; method_class = tt; method_types = tt; loaded = tt; computed = tt; site = tt }
+  computed_by_text (Ok d) name None h = record { class = tt; field_class = tt; field_held = tt; method_interface = refl; method_init = refl; method_class = tt; method_types = tt; loaded = tt; computed = h; site_special = refl; site = tt }
+  computed_by_text (Ok d) name (Some n) h = record { class = tt; field_class = tt; field_held = tt; method_interface = refl; method_init = refl; method_class = tt; method_types = tt; loaded = tt; computed = h; site_special = refl; site = tt }
+  computed_by_text (Err e) name None h = record { class = tt; field_class = tt; field_held = tt; method_interface = refl; method_init = refl; method_class = tt; method_types = tt; loaded = tt; computed = tt; site_special = refl; site = tt }
   computed_by_text (Err e) name (Some n) h = absurd h
 
   not_computed : IsDescribed s row (computed None) Other
-  not_computed = record { class = tt; field_class = tt; field_held = tt; method_interface = refl; method_class = tt; method_types = tt; loaded = tt; computed = tt; site = tt }
+  not_computed = record { class = tt; field_class = tt; field_held = tt; method_interface = refl; method_init = refl; method_class = tt; method_types = tt; loaded = tt; computed = tt; site_special = refl; site = tt }
 
   module _ (pool : List Entry) (name_and_type : ℕ) where
     pub dynamic_described : (descriptor : ℕ) → HasDescriptor pool name_and_type descriptor → (n : Option ℕ) → IsNumberOf s n (type_in Descriptor pool descriptor) → IsEntryDescribed s row pool (entries.Dynamic 0 name_and_type) (dynamic_of n)
@@ -94,19 +98,26 @@ type_of_site : (name : List ℕ) (t : Option MethodDescriptor) → option_map si
 type_of_site name None = refl
 type_of_site name (Some t) = refl
 
-module _ (s : Numbering) (row : List ℕ) where
-  with_types : (c : Option CallSite) (x : Option MethodNumbers) → AreTypesOf s row x (option_map site_type c) → IsDescribed s row (bound c) (site_of x)
-  with_types c None h = record { class = tt; field_class = tt; field_held = tt; method_interface = refl; method_class = tt; method_types = tt; loaded = tt; computed = tt; site = h }
-  with_types c (Some x) h = record { class = tt; field_class = tt; field_held = tt; method_interface = refl; method_class = tt; method_types = tt; loaded = tt; computed = tt; site = h }
+special_of : (special : Bool) (name : List ℕ) → special ≡ begins_with less_than name → (t : Option MethodDescriptor) (k : CallSite) → site_with name t ≡ Some k → special ≡ site_special k
+special_of special name e None k is = absurd (none_some is)
+special_of special name e (Some t) k is = e ∙ ap site_special (some_same is)
 
-  site_by_text : (d : Result (List ℕ) PoolFault) (name : List ℕ) (x : Option MethodNumbers) → AreTypesOf s row x (option_and_then (λ text. found (method_answer false text)) (found d)) → IsDescribed s row (bound (option_and_then call_site (found (named_by (Ok name) d)))) (site_of x)
-  site_by_text (Ok d) name x h = with_types (site_with name (found (method_answer false d))) x (subst (AreTypesOf s row x) (sym (type_of_site name (found (method_answer false d)))) h)
-  site_by_text (Err e) name x h = with_types None x h
+module _ (s : Numbering) (row : List ℕ) where
+  with_types : (special : Bool) (c : Option CallSite) (x : Option MethodNumbers) → ((k : CallSite) → c ≡ Some k → special ≡ site_special k) → AreTypesOf s row x (option_map site_type c) → IsDescribed s row (bound c) (site_of special x)
+  with_types special None None g h = record { class = tt; field_class = tt; field_held = tt; method_interface = refl; method_init = refl; method_class = tt; method_types = tt; loaded = tt; computed = tt; site_special = refl; site = h }
+  with_types special None (Some x) g h = absurd h
+  with_types special (Some k) None g h = absurd h
+  with_types special (Some k) (Some x) g h = record { class = tt; field_class = tt; field_held = tt; method_interface = refl; method_init = refl; method_class = tt; method_types = tt; loaded = tt; computed = tt; site_special = ap (λ (b : Bool). Some b) (g k refl); site = h }
+
+  site_by_text : (special : Bool) (d : Result (List ℕ) PoolFault) (name : List ℕ) (x : Option MethodNumbers) → special ≡ begins_with less_than name → AreTypesOf s row x (option_and_then (λ text. found (method_answer false text)) (found d)) → IsDescribed s row (bound (option_and_then call_site (found (named_by (Ok name) d)))) (site_of special x)
+  site_by_text special (Ok d) name x e h = with_types special (site_with name (found (method_answer false d))) x (special_of special name e (found (method_answer false d))) (subst (AreTypesOf s row x) (sym (type_of_site name (found (method_answer false d)))) h)
+  site_by_text special (Err r) name x e h = with_types special None x (λ k is. absurd (none_some is)) h
 
   module _ (pool : List Entry) (name_and_type : ℕ) where
-    pub site_described : (descriptor : ℕ) → HasDescriptor pool name_and_type descriptor → (x : Option MethodNumbers) → AreTypesOf s row x (method_in pool descriptor) → IsEntryDescribed s row pool (entries.InvokeDynamic 0 name_and_type) (site_of x)
-    site_described descriptor texts x h =
-        subst (λ r. IsDescribed s row (bound (option_and_then call_site (found r))) (site_of x)) (sym texts.is) (site_by_text (text_at pool descriptor) texts.name x h)
+    pub site_described : (descriptor : ℕ) → HasDescriptor pool name_and_type descriptor → (special : Bool) (x : Option MethodNumbers) → special ≡ is_special_named pool name_and_type → AreTypesOf s row x (method_in pool descriptor) → IsEntryDescribed s row pool (entries.InvokeDynamic 0 name_and_type) (site_of special x)
+    site_described descriptor texts special x e h =
+        subst (λ r. IsDescribed s row (bound (option_and_then call_site (found r))) (site_of special x)) (sym texts.is)
+        (site_by_text special (text_at pool descriptor) texts.name x (e ∙ ap (λ o. option_map_or (begins_with less_than) o false) texts.name_is) h)
 
     pub no_site : descriptor_index pool name_and_type ≡ None → IsEntryDescribed s row pool (entries.InvokeDynamic 0 name_and_type) Other
-    no_site none = subst (λ o. IsDescribed s row (bound (option_and_then call_site o)) Other) (sym (no_descriptor pool name_and_type none)) (with_types None None tt)
+    no_site none = subst (λ o. IsDescribed s row (bound (option_and_then call_site o)) Other) (sym (no_descriptor pool name_and_type none)) (with_types false None None (λ k is. absurd (none_some is)) tt)

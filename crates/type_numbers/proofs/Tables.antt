@@ -136,10 +136,12 @@ described_stays old new more row later on m c h = record {
   field_class = number_of_stays old new more (field_class_of c) (option_map field_class m.field) h.field_class;
   field_held = number_of_stays old new more (field_held_of c) (option_map field_held m.field) h.field_held;
   method_interface = h.method_interface;
+  method_init = h.method_init;
   method_class = number_of_stays old new more (method_class_of c) (option_map method_class m.method) h.method_class;
   method_types = types_of_on old new more row later on (method_types_of c) (option_map method_type m.method) h.method_types;
   loaded = number_of_stays old new more (loaded_of c) m.loaded h.loaded;
   computed = number_of_stays old new more (computed_of c) (option_map descriptor_type m.computed) h.computed;
+  site_special = h.site_special;
   site = types_of_on old new more row later on (site_types_of c) (option_map site_type m.site) h.site;
 }
 

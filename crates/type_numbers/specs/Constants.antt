@@ -1,12 +1,14 @@
 -- The constants of a class as its instructions name them, with types by their numbers (JVMS 4.4).
-use Rattle.std.specs.Prelude.{◌≡◌, ℕ, Bool, List, Option, Some, None, option_map, slice_index_or}
+use Rattle.std.specs.Prelude.{◌≡◌, ℕ, Bool, bytes_eq, List, Option, Some, None, option_map, slice_index_or}
 use Rattle.std.specs.Option.{option_and_then}
 use Rattle.names.specs.Descriptors.{FieldDescriptor, MethodDescriptor}
 use Rattle.names.specs.ReferenceTypes.{ReferenceType}
-use Rattle.names.specs.StandardNames.{string_name, class_name, method_type_name, method_handle_name}
+use Rattle.names.specs.Names.{less_than}
+use Rattle.names.specs.StandardNames.{init_name, string_name, class_name, method_type_name, method_handle_name}
 use Rattle.pool.specs.Entries as entries
 use Rattle.pool.specs.Entries.{Entry}
 use Rattle.pool.specs.ConstantMeanings.{FieldConstant, MethodConstant, CallSite, constant_at, class_at, field_at, method_at, dynamic_type_at, call_site_at}
+use Rattle.classfile.specs.Naming.{begins_with}
 use Rattle.frames.specs.VerificationType.{VerificationType, int, float, long, double, class}
 use Rattle.frames.specs.Slots.{to_reference, descriptor_type}
 use Rattle.type_numbers.specs.declared.constant_table.ConstantTable.{ConstantTable}
@@ -32,17 +34,22 @@ abbrev pub field_held_of : NamedConstant → Option ℕ
 field_held_of (Field n held) = Some held
 field_held_of _ = None
 
--- whether a method is named by an InterfaceMethodref, the number of its class, and the types of its descriptor
+-- whether a method is named by an InterfaceMethodref, whether its name is `<init>`, the number of its class, and the
+-- types of its descriptor
 abbrev pub method_interface_of : NamedConstant → Option Bool
-method_interface_of (Method interface n types) = Some interface
+method_interface_of (Method interface init n types) = Some interface
 method_interface_of _ = None
 
+abbrev pub method_init_of : NamedConstant → Option Bool
+method_init_of (Method interface init n types) = Some init
+method_init_of _ = None
+
 abbrev pub method_class_of : NamedConstant → Option ℕ
-method_class_of (Method interface n types) = Some n
+method_class_of (Method interface init n types) = Some n
 method_class_of _ = None
 
 abbrev pub method_types_of : NamedConstant → Option MethodNumbers
-method_types_of (Method interface n types) = Some types
+method_types_of (Method interface init n types) = Some types
 method_types_of _ = None
 
 -- the number of the type that a constant loads by its kind
@@ -56,12 +63,16 @@ abbrev pub computed_of : NamedConstant → Option ℕ
 computed_of (Dynamic held) = Some held
 computed_of _ = None
 
--- the types of the descriptor of an InvokeDynamic
+-- whether the name of an InvokeDynamic begins with '<', and the types of its descriptor
+abbrev pub site_special_of : NamedConstant → Option Bool
+site_special_of (Site special types) = Some special
+site_special_of _ = None
+
 abbrev pub site_types_of : NamedConstant → Option MethodNumbers
-site_types_of (Site types) = Some types
+site_types_of (Site special types) = Some types
 site_types_of _ = None
 
--- ---- the types that these numbers stand for
+-- ---- what these parts say of a constant
 
 abbrev pub field_class : FieldConstant → VerificationType
 field_class f = class f.class
@@ -72,12 +83,20 @@ field_held f = descriptor_type f.type
 abbrev pub method_interface : MethodConstant → Bool
 method_interface m = m.interface
 
+-- it is an instance initialization method by its name (JVMS 2.9.1)
+abbrev pub method_init : MethodConstant → Bool
+method_init m = bytes_eq m.name init_name
+
 -- the class may be an array
 abbrev pub method_class : MethodConstant → VerificationType
 method_class m = to_reference m.class
 
 abbrev pub method_type : MethodConstant → MethodDescriptor
 method_type m = m.type
+
+-- it is none that may be called
+abbrev pub site_special : CallSite → Bool
+site_special c = begins_with less_than c.name
 
 abbrev pub site_type : CallSite → MethodDescriptor
 site_type c = c.type
@@ -126,10 +145,12 @@ pub record IsDescribed (s : Numbering) (row : List ℕ) (m : Meaning) (c : Named
   pub field_class : IsNumberOf s (field_class_of c) (option_map field_class m.field)
   pub field_held : IsNumberOf s (field_held_of c) (option_map field_held m.field)
   pub method_interface : method_interface_of c ≡ option_map method_interface m.method
+  pub method_init : method_init_of c ≡ option_map method_init m.method
   pub method_class : IsNumberOf s (method_class_of c) (option_map method_class m.method)
   pub method_types : AreTypesOf s row (method_types_of c) (option_map method_type m.method)
   pub loaded : IsNumberOf s (loaded_of c) m.loaded
   pub computed : IsNumberOf s (computed_of c) (option_map descriptor_type m.computed)
+  pub site_special : site_special_of c ≡ option_map site_special m.site
   pub site : AreTypesOf s row (site_types_of c) (option_map site_type m.site)
 
 -- ---- tables

@@ -2,7 +2,7 @@
 -- descriptors share, and that of its result.
 use Rattle.std.specs.Prelude.{◌≡◌, ℕ, ◌+◌, ◌≤◌, false, List, [], ◌∷◌, ◌++◌, Option, Some, None, option_map, map, take, drop, length, slice_index_or}
 use Rattle.std.specs.Option.{option_and_then}
-use Rattle.names.specs.Descriptors.{MethodDescriptor}
+use Rattle.names.specs.Descriptors.{MethodDescriptor, method_width}
 use Rattle.names.specs.Reading.{method_answer}
 use Rattle.pool.specs.Entries.{Entry}
 use Rattle.pool.specs.Lookups.{text_at}
@@ -27,6 +27,7 @@ arguments_in row x = take x.count (drop x.start row)
 
 pub record AreTypes (s : Numbering) (row : List ℕ) (x : MethodNumbers) (m : MethodDescriptor) : Type 0 where
   pub within : x.start + x.count ≤ length row
+  pub width : x.width ≡ method_width m false
   pub arguments : AreNumbers s (arguments_in row x) (map descriptor_type m.params)
   pub result : IsNumberOf s x.result (option_map descriptor_type m.result)
 

@@ -64,6 +64,6 @@ impl ConstantTable {
         requires { types.start + types.count ≤ length (arguments_of self.now) }
         ensures { result.now ≡ arguments_in (arguments_of self.now) types }
     {
-        &self.arguments[types.start..types.start + types.count]
+        &self.arguments[types.start..types.start + usize::from(types.count)]
     }
 }

@@ -1,5 +1,5 @@
 //! The numbers of the types that descriptors of methods name.
-ghost use Rattle.std.specs.Prelude.{◌≡◌, ◌+◌, ◌≤◌, ◌++◌, ℕ, false, List, Ok, length, map, option_map, IfOk, OnOk};
+ghost use Rattle.std.specs.Prelude.{◌≡◌, ◌+◌, ◌≤◌, ◌++◌, ℕ, false, List, Ok, length, map, option_map, IfOk, IfSome, OnOk};
 ghost use Rattle.names.specs.Reading.{method_answer};
 ghost use Rattle.names.specs.Types.{method_of, type_of};
 ghost use Rattle.frames.specs.Slots.{descriptor_type};
@@ -7,6 +7,7 @@ ghost use Rattle.pool.specs.Lookups.{text_at};
 ghost use Rattle.pool.specs.ConstantMeanings.{found};
 ghost use Rattle.type_numbers.specs.Numbers.{Numbering, Extends, IsNumberOf};
 ghost use Rattle.type_numbers.specs.MethodNumbers.{AreDescriptors, AreNumbers, AreTypes, AreTypesOf, GoesOn, arguments_in, method_in, row_of};
+ghost use Rattle.type_numbers.specs.private.Readings.{HasFewUnits};
 
 use crate::type_numbers::TypeNumbers;
 use frames::held_by;
@@ -22,7 +23,9 @@ pub struct MethodNumbers {
     /// Where the types of its parameters begin in the row of all.
     pub start: usize,
     /// How many parameters it has.
-    pub count: usize,
+    pub count: u8,
+    /// How many units they take, without a receiver (JVMS 4.3.3).
+    pub width: u8,
     /// The type of its result, if it gives something.
     pub result: Option<u32>,
 }
@@ -81,7 +84,8 @@ fn result_number<'a, C: Classes, S: BuildHasher>(
 
 /// The types that a text names as the descriptor of a method without a receiver.
 fn method_named<'a>(alloc: Global, text: Text<'a>) -> Result<Option<MethodType<'a>>, AllocError>
-    ensures { IfOk result (λ m. option_map method_of m ≡ found (method_answer false text.entry.bytes.now)) }
+    ensures named { IfOk result (λ m. option_map method_of m ≡ found (method_answer false text.entry.bytes.now)) }
+    ensures few { IfOk result (λ m. IfSome m HasFewUnits) }
 {
     match method_type(alloc, text, false) {
         Ok(method) => Ok(Some(method)),
@@ -113,6 +117,7 @@ impl DescriptorNumbers {
         method: &MethodType<'a>,
         numbers: &mut TypeNumbers<'_, 'a, C, S>,
     ) -> Result<MethodNumbers, AllocError>
+        requires { HasFewUnits method.now }
         ensures kept { Extends numbers.old numbers.new }
         ensures readings { self.new.readings ≡ self.old.readings }
         ensures grown { OnOk result (GoesOn (row_of self.old) (row_of self.new)) }
@@ -123,7 +128,8 @@ impl DescriptorNumbers {
         let result = result_number(method.result, numbers)?;
         Ok(MethodNumbers {
             start,
-            count: method.params.len(),
+            count: method.params.len() as u8,
+            width: method.width(false) as u8,
             result,
         })
     }
@@ -181,7 +187,7 @@ impl DescriptorNumbers {
         requires { types.start + types.count ≤ length (row_of self.now) }
         ensures { result.now ≡ arguments_in (row_of self.now) types }
     {
-        &self.arguments[types.start..types.start + types.count]
+        &self.arguments[types.start..types.start + usize::from(types.count)]
     }
 
     /// The row of the types of all parameters.

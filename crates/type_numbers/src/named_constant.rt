@@ -19,6 +19,8 @@ pub enum NamedConstant {
     /// A Methodref or an InterfaceMethodref of this class, whose descriptor names these types (JVMS 4.4.2).
     Method {
         interface: bool,
+        /// The name is `<init>` (JVMS 2.9.1).
+        init: bool,
         class: u32,
         types: MethodNumbers,
     },
@@ -32,6 +34,8 @@ pub enum NamedConstant {
     },
     /// An InvokeDynamic, whose descriptor names these types (JVMS 4.4.10).
     Site {
+        /// The name begins with '<', as `<init>` and `<clinit>` do.
+        special: bool,
         types: MethodNumbers,
     },
 }

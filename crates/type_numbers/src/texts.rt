@@ -1,12 +1,12 @@
 //! The constants that lead to texts, each text read once.
-ghost use Rattle.std.specs.Prelude.{◌≡◌, IfOk, OnOk};
+ghost use Rattle.std.specs.Prelude.{◌≡◌, option_map, IfOk, OnOk};
 ghost use Rattle.pool.specs.Entries.{Class, Dynamic, Fieldref, InvokeDynamic};
 ghost use Rattle.pool.specs.Lookups.{methodref};
 ghost use Rattle.pool.specs.Views.{view};
 ghost use Rattle.type_numbers.specs.declared.text_numbers.Form.TheVariants.{ClassName, FieldDescriptor};
 ghost use Rattle.type_numbers.specs.MethodNumbers.{AreTypesOf, GoesOn, method_in, row_of};
 ghost use Rattle.type_numbers.specs.Numbers.{Numbering, Extends, IsNumberOf};
-ghost use Rattle.type_numbers.specs.private.Entries.{IsEntryDescribed, class_as, descriptor_index, dynamic_of, field_of, loaded_as, member_texts, method_of, site_of};
+ghost use Rattle.type_numbers.specs.private.Entries.{IsEntryDescribed, class_as, descriptor_index, dynamic_of, field_of, is_init_named, is_special_named, loaded_as, member_name, member_texts, method_of, site_of};
 ghost use Rattle.type_numbers.specs.private.Readings.{AreTexts, shared_row, type_in};
 
 use crate::loaded_numbers::LoadedNumbers;
@@ -16,6 +16,7 @@ use crate::parts::is_array;
 use crate::text_numbers::{Form, TextNumbers};
 use crate::type_numbers::TypeNumbers;
 use hierarchy::Classes;
+use names::INIT;
 use pool::{Constant, Pool};
 use std::alloc::{AllocError, Global};
 use std::hash::BuildHasher;
@@ -60,6 +61,39 @@ fn descriptor_index(pool: &Pool<'_>, name_and_type: u16) -> Option<u16>
     }
 }
 
+/// The name of the NameAndType at this index, if it is a text.
+fn member_name<'a>(pool: &Pool<'a>, name_and_type: u16) -> Option<&'a [u8]>
+    ensures { option_map (λ n. n.now) result ≡ member_name pool.now name_and_type }
+{
+    let Ok(Constant::NameAndType { name, .. }) = pool.get(name_and_type) else {
+        return None;
+    };
+    match pool.text(name) {
+        Ok(text) => Some(text.bytes()),
+        Err(_) => None,
+    }
+}
+
+/// Whether the NameAndType at this index names an instance initialization method (JVMS 2.9.1).
+fn is_init_named(pool: &Pool<'_>, name_and_type: u16) -> bool
+    ensures { result ≡ is_init_named pool.now name_and_type }
+{
+    match member_name(pool, name_and_type) {
+        Some(name) => name == INIT,
+        None => false,
+    }
+}
+
+/// Whether the name of the NameAndType at this index begins with '<', as `<init>` and `<clinit>` do.
+fn is_special_named(pool: &Pool<'_>, name_and_type: u16) -> bool
+    ensures { result ≡ is_special_named pool.now name_and_type }
+{
+    match member_name(pool, name_and_type) {
+        Some([first, ..]) => *first == b'<',
+        Some([]) | None => false,
+    }
+}
+
 /// A Class that names the type of this number, if it names one, and loads an object of the type of that one.
 fn class_as(class: Option<u32>, loaded: u32) -> NamedConstant
     ensures { result ≡ class_as class loaded }
@@ -91,11 +125,11 @@ fn dynamic_of(held: Option<u32>) -> NamedConstant
 }
 
 /// An InvokeDynamic whose descriptor names these types, if it is one of a method.
-fn site_of(types: Option<MethodNumbers>) -> NamedConstant
-    ensures { result ≡ site_of types }
+fn site_of(special: bool, types: Option<MethodNumbers>) -> NamedConstant
+    ensures { result ≡ site_of special types }
 {
     match types {
-        Some(types) => NamedConstant::Site { types },
+        Some(types) => NamedConstant::Site { special, types },
         None => NamedConstant::Other,
     }
 }
@@ -119,8 +153,13 @@ fn field_of(class: Option<u32>, held: Option<u32>) -> NamedConstant
 }
 
 /// A method of a class of this number, whose descriptor names these types; none where one of the two is missing.
-fn method_of(interface: bool, class: Option<u32>, types: Option<MethodNumbers>) -> NamedConstant
-    ensures { result ≡ method_of interface class types }
+fn method_of(
+    interface: bool,
+    init: bool,
+    class: Option<u32>,
+    types: Option<MethodNumbers>,
+) -> NamedConstant
+    ensures { result ≡ method_of interface init class types }
 {
     let Some(class) = class else {
         return NamedConstant::Other;
@@ -130,6 +169,7 @@ fn method_of(interface: bool, class: Option<u32>, types: Option<MethodNumbers>) 
     };
     NamedConstant::Method {
         interface,
+        init,
         class,
         types,
     }
@@ -253,7 +293,12 @@ impl Texts {
             return Ok(NamedConstant::Other);
         };
         let (class, types) = self.method_types(pool, name, descriptor, numbers)?;
-        Ok(method_of(interface, class, types))
+        Ok(method_of(
+            interface,
+            is_init_named(pool, name_and_type),
+            class,
+            types,
+        ))
     }
 
     /// The Dynamic that leads to a NameAndType at this index, whatever its bootstrap method.
@@ -295,7 +340,7 @@ impl Texts {
             return Ok(NamedConstant::Other);
         };
         let types = self.methods.types(pool, descriptor, numbers)?;
-        Ok(site_of(types))
+        Ok(site_of(is_special_named(pool, name_and_type), types))
     }
 
     /// A constant of the pool as instructions name it. The only refusal is 1, where memory runs out.

@@ -1,12 +1,15 @@
 -- The entries of a pool as instructions name them.
-use Rattle.std.specs.Prelude.{ℕ, ◌/◌, ◌%◌, nat_lt, if◌then◌else◌, Bool, true, false, List, Option, Some, None}
-use Rattle.std.specs.Option.{option_and_then}
+use Rattle.std.specs.Prelude.{ℕ, bytes_eq, ◌/◌, ◌%◌, nat_lt, if◌then◌else◌, Bool, true, false, List, Option, Some, None}
+use Rattle.std.specs.Option.{option_and_then, option_map_or}
 use Rattle.names.specs.Descriptors.{FieldDescriptor}
+use Rattle.names.specs.Names.{less_than}
 use Rattle.names.specs.ReferenceTypes.{ReferenceType, reference_type}
+use Rattle.names.specs.StandardNames.{init_name}
 use Rattle.pool.specs.Entries.{Entry}
 use Rattle.pool.specs.Entries as entries
 use Rattle.pool.specs.Lookups.{text_at, name_and_type_at, member, method}
 use Rattle.pool.specs.ConstantMeanings.{FieldConstant, MethodConstant, CallSite, found, constant_at, field_constant, method_constant, dynamic_type, call_site}
+use Rattle.classfile.specs.Naming.{begins_with}
 use Rattle.type_numbers.specs.declared.method_numbers.MethodNumbers.{MethodNumbers}
 use Rattle.type_numbers.specs.declared.named_constant.NamedConstant.{NamedConstant}
 use Rattle.type_numbers.specs.declared.named_constant.NamedConstant.TheVariants.{Other, Class, Field, Method, Loaded, Dynamic, Site}
@@ -71,15 +74,30 @@ abbrev pub descriptor_index : List Entry → ℕ → Option ℕ
 descriptor_index pool name_and_type =
     descriptor_by (constant_at pool name_and_type) (λ i. found (text_at pool i))
 
+-- the name of a NameAndType
+abbrev pub name_by : Option Entry → (ℕ → Option (List ℕ)) → Option (List ℕ)
+name_by (Some (entries.NameAndType name descriptor)) text = text name
+name_by _ text = None
+
+abbrev pub member_name : List Entry → ℕ → Option (List ℕ)
+member_name pool name_and_type = name_by (constant_at pool name_and_type) (λ i. found (text_at pool i))
+
+-- a NameAndType names an instance initialization method, or has a name that begins with '<'
+abbrev pub is_init_named : List Entry → ℕ → Bool
+is_init_named pool name_and_type = option_map_or (λ name. bytes_eq name init_name) (member_name pool name_and_type) false
+
+abbrev pub is_special_named : List Entry → ℕ → Bool
+is_special_named pool name_and_type = option_map_or (begins_with less_than) (member_name pool name_and_type) false
+
 -- a field of a class of this number, and of no array, which holds a type of that one
 abbrev pub field_of : Option ℕ → Option ℕ → NamedConstant
 field_of (Some class) (Some held) = if nat_lt 0 (class / 65536 % 256) then Other else Field class held
 field_of _ _ = Other
 
 -- a method of a class of this number, whose descriptor names these types
-abbrev pub method_of : Bool → Option ℕ → Option MethodNumbers → NamedConstant
-method_of interface (Some class) (Some types) = Method interface class types
-method_of interface _ _ = Other
+abbrev pub method_of : Bool → Bool → Option ℕ → Option MethodNumbers → NamedConstant
+method_of interface init (Some class) (Some types) = Method interface init class types
+method_of interface init _ _ = Other
 
 -- a constant that loads a value of the type of this number
 abbrev pub loaded_as : Option ℕ → NamedConstant
@@ -92,9 +110,9 @@ dynamic_of (Some held) = Dynamic held
 dynamic_of None = Other
 
 -- an InvokeDynamic whose descriptor names these types
-abbrev pub site_of : Option MethodNumbers → NamedConstant
-site_of (Some types) = Site types
-site_of None = Other
+abbrev pub site_of : Bool → Option MethodNumbers → NamedConstant
+site_of special (Some types) = Site special types
+site_of special None = Other
 
 -- a Class that names the type of this number, if it names one; its constant loads a type of the other
 abbrev pub class_as : Option ℕ → ℕ → NamedConstant

@@ -10,11 +10,11 @@ use Rattle.numbered_rules.specs.Held.{held}
 use Rattle.numbered_rules.proofs.computing.gives_number.Goals as goal
 
 pub gives-requires : goal.gives-requires
-gives-requires g c = (number_type c.args.kind, c.number_of.ensures c.args.frames.now.types)
+gives-requires g c = (number_type c.args.kind, c.number_of.ensures.given c.args.frames.now.types)
 
 pub returns-clause-done : goal.returns-clause-done
 returns-clause-done g c =
     let s = c.args.frames.now.types in
     let f = held c.args.frames.now in
     let m = method_view c.args.method.now in
-    subst (λ t. Done (conditions s.classes m 0 (gives t) f) (after m 0 (gives t) f) (held c.gives.new.frames) c.gives.result) (number_read s c.number_of.result (number_type c.args.kind) (c.number_of.ensures s)) c.gives.ensures.done
+    subst (λ t. Done (conditions s.classes m 0 (gives t) f) (after m 0 (gives t) f) (held c.gives.new.frames) c.gives.result) (number_read s c.number_of.result (number_type c.args.kind) (c.number_of.ensures.given s)) c.gives.ensures.done

@@ -1,4 +1,5 @@
-use Rattle.std.proofs.Common.{◌≡◌, map, subst, length, arith}
+use Rattle.std.proofs.Common.{◌≡◌, false, map, subst, length, arith}
+use Rattle.names.specs.Descriptors.{method_width}
 use Rattle.names.specs.Types.{method_of, type_of}
 use Rattle.frames.specs.Slots.{descriptor_type}
 use Rattle.type_numbers.specs.MethodNumbers.{AreNumbers}
@@ -20,8 +21,11 @@ returns-clause-types g c =
     let ns = pushed.0 in
     let old = subst (λ xs. AreNumbers c.push_numbers.new.numbers ns (map descriptor_type (map type_of xs))) c.deref.ensures.value pushed.2 in
     let all : length ns ≡ length params = params_length c.push_numbers.new.numbers ns params old in
-    let count : c.len.result ≡ length ns = omega (arith, c.len.ensures, all) in
+    let few = c.requires.params in
+    let narrow = c.requires.units in
+    let count : c.len.result ≡ length ns = omega (arith, c.len.ensures, all, few) in
+    let width : c.width.result ≡ method_width (method_of c.args.method.now) false = omega (arith, c.width.ensures, narrow) in
     let start : c.len-start.result ≡ length c.args.self.now.arguments.items = omega (arith, c.len-start.ensures) in
     pushed_types s c.args.self.now.arguments.items c.push_numbers.new.row.items (method_of c.args.method.now) ns pushed.1
     (numbers_on c.push_numbers.new.numbers s c.result_number.ensures.kept ns (map descriptor_type (map type_of params)) old)
-    (record { start = c.len-start.result; count = c.len.result; result = c.in_ok-result.result }) start count c.in_ok-result.ensures.number
+    (record { start = c.len-start.result; count = c.len.result; width = c.width.result; result = c.in_ok-result.result }) start count width c.in_ok-result.ensures.number

@@ -35,7 +35,7 @@ returns-clause-readings g c =
     let count : length items ≡ length c.args.self.now.readings.items = ap length same in
     let h : i < length items = omega (arith, within, c.requires.read.long, c.from-2.ensures, count) in
     let some : method_in pool i ≡ Some (method_of c.in-Some.method) =
-    ap (λ k. method_in pool k) c.from-2.ensures ∙ method_read pool c.args.index c.args.text.bytes.now c.requires.text ∙ sym c.in_ok-method.ensures ∙ ap (option_map method_of) c.in-Some.is in
+    ap (λ k. method_in pool k) c.from-2.ensures ∙ method_read pool c.args.index c.args.text.bytes.now c.requires.text ∙ sym c.in_ok-method.ensures.named ∙ ap (option_map method_of) c.in-Some.is in
     record {
       long = length-set items i (Types x) ∙ count ∙ c.requires.read.long;
       read = all_noted (λ k r. IsMethodReading s later (method_in pool k) r) items Unread i (Types x) h

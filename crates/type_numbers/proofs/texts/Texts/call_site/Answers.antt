@@ -32,4 +32,4 @@ returns-clause-described g c =
     let pool = c.args.pool.now in
     let texts = has_descriptor pool c.args.name_and_type c.in-Some.descriptor (sym c.descriptor_index.ensures ∙ c.in-Some.is) in
     subst (IsEntryDescribed s row pool (InvokeDynamic 0 c.args.name_and_type)) (sym c.site_of.ensures)
-    (site_described s row pool c.args.name_and_type c.in-Some.descriptor texts c.in_ok-types.types c.in_ok-types.ensures.types)
+    (site_described s row pool c.args.name_and_type c.in-Some.descriptor texts c.is_special_named.result c.in_ok-types.types c.is_special_named.ensures c.in_ok-types.ensures.types)

@@ -21,4 +21,4 @@ returns-clause-described g c =
     let pool = c.args.pool.now in
     let texts = has_texts pool c.args.class c.args.name_and_type c.in-Some.name c.in-Some.descriptor (sym c.member_texts.ensures ∙ c.in-Some.is) in
     subst (IsEntryDescribed s row pool (methodref c.args.interface c.args.class c.args.name_and_type)) (sym c.method_of.ensures)
-    (method_described s row pool c.args.interface c.args.class c.args.name_and_type c.in-Some.name c.in-Some.descriptor texts c.in_ok-class.class c.in_ok-class.types c.in_ok-class.ensures.class c.in_ok-class.ensures.types)
+    (method_described s row pool c.args.interface c.args.class c.args.name_and_type c.in-Some.name c.in-Some.descriptor texts c.is_init_named.result c.in_ok-class.class c.in_ok-class.types c.is_init_named.ensures c.in_ok-class.ensures.class c.in_ok-class.ensures.types)

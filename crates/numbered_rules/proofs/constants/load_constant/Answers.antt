@@ -1,0 +1,61 @@
+use Rattle.std.proofs.Common.{◌∙◌, false, refl, sym, ap, subst}
+use Rattle.pool.specs.ConstantMeanings.{constant_at, dynamic_type_at}
+use Rattle.frames.specs.Slots.{is_wide}
+use Rattle.type_numbers.specs.Constants.{loaded_at}
+use Rattle.type_numbers.specs.Decoding.{type_by}
+use Rattle.type_numbers.specs.Numbers.{IsNumberOf}
+use Rattle.type_numbers.proofs.Decoded.{number_read}
+use Rattle.rules.specs.Bodies.{method_view}
+use Rattle.rules.specs.Constants.{load_constant}
+use Rattle.rules.specs.TypingRules.{gives}
+use Rattle.rules.specs.declared.reason.Reason.TheVariants.{WrongConstant}
+use Rattle.rules.proofs.Settling.{by_typing_rule}
+use Rattle.numbered_rules.specs.Held.{held}
+use Rattle.numbered_rules.specs.private.Loading.{units_by, load_computed}
+use Rattle.numbered_rules.proofs.Judging.{refused}
+use Rattle.numbered_rules.proofs.Loading.{loads_narrow, loads_no_wide, loads_by_computed}
+use Rattle.numbered_rules.proofs.Naming.{number_given, none_numbered, typed}
+use Rattle.numbered_rules.proofs.constants.load_constant.Goals as goal
+
+pub returns-in_default-clause-done : goal.returns-in_default-clause-done
+returns-in_default-clause-done g c = λ at.
+    let s = c.args.frames.now.types in
+    let m = method_view c.args.method.now in
+    let f = held c.args.frames.now in
+    let o = constant_at m.constant_pool c.args.index in
+    let t = dynamic_type_at m.constant_pool c.args.index in
+    let l = loaded_at m.constant_pool c.args.index in
+    let none = none_numbered s l (subst (λ k. IsNumberOf s k l) c.in_default.is (c.loaded_at.ensures s m.constant_pool c.requires.table)) in
+    by_typing_rule m at (load_constant m t o) (load_computed m (units_by false) t o) s.classes f (held c.loads_computed.new.frames) c.loads_computed.result
+    (loads_by_computed m t o none) (c.loads_computed.ensures.done at)
+
+pub gives-requires : goal.gives-requires
+gives-requires g c =
+    let s = c.args.frames.now.types in
+    let m = method_view c.args.method.now in
+    number_given s c.in-Some.number (loaded_at m.constant_pool c.args.index) (c.in-Some.ensures s m.constant_pool c.requires.table)
+
+pub returns-then-is_wide-clause-done : goal.returns-then-is_wide-clause-done
+returns-then-is_wide-clause-done g c = λ at.
+    let s = c.args.frames.now.types in
+    let m = method_view c.args.method.now in
+    let f = held c.args.frames.now in
+    let n = c.in-Some.number in
+    let o = constant_at m.constant_pool c.args.index in
+    let t = dynamic_type_at m.constant_pool c.args.index in
+    let x = typed s n (loaded_at m.constant_pool c.args.index) (c.in-Some.ensures s m.constant_pool c.requires.table) in
+    let told = ap is_wide (sym (number_read s n x.type x.number)) ∙ sym (c.is_wide.ensures s) in
+    refused m at (load_constant m t o) 66 WrongConstant s.classes f f (loads_no_wide m t o x.type x.is (told ∙ c.if-is_wide.true)) refl
+
+pub returns-else-is_wide-clause-done : goal.returns-else-is_wide-clause-done
+returns-else-is_wide-clause-done g c = λ at.
+    let s = c.args.frames.now.types in
+    let m = method_view c.args.method.now in
+    let f = held c.args.frames.now in
+    let n = c.in-Some.number in
+    let o = constant_at m.constant_pool c.args.index in
+    let t = dynamic_type_at m.constant_pool c.args.index in
+    let x = typed s n (loaded_at m.constant_pool c.args.index) (c.in-Some.ensures s m.constant_pool c.requires.table) in
+    let told = ap is_wide (sym (number_read s n x.type x.number)) ∙ sym (c.is_wide.ensures s) in
+    by_typing_rule m at (load_constant m t o) (gives (type_by s n)) s.classes f (held c.gives.new.frames) c.gives.result
+    (loads_narrow m t o x.type x.is (told ∙ c.if-is_wide.false) ∙ ap gives (sym (number_read s n x.type x.number))) c.gives.ensures.done
