@@ -4,6 +4,7 @@ pub mod Knowing
 pub mod Holding
 pub mod ObjectNumbers
 pub mod Among
+pub mod ObjectTypes
 pub mod Answering
 pub mod Walking
 pub mod Counting

@@ -2,4 +2,5 @@ pub mod TypeRows
 pub mod NumberedStacks
 pub mod NumberedFrames
 pub mod Objects
+pub mod ObjectLaws
 pub mod private

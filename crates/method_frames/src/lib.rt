@@ -3,6 +3,7 @@
 //!
 //! - `holders`: the places that came to hold objects that are not initialized.
 //! - `items`: the items of an operand stack.
+//! - `laws`: what the numbers of objects mean, without code.
 //! - `method`: the frames of a method, put together of the others.
 //! - `moves`: items as the instructions for the stack move them.
 //! - `objects`: objects that are not initialized, by their numbers.
@@ -13,6 +14,7 @@
 
 mod holders;
 mod items;
+pub mod laws;
 mod method;
 mod moves;
 mod objects;

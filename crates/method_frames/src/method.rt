@@ -84,7 +84,11 @@ impl<'t, 'c, 'n, C: Classes, S: BuildHasher> MethodFrames<'t, 'c, 'n, C, S> {
     ghost use Rattle.frames.specs.Slots.{units_of};
     ghost use Rattle.frames.specs.Assignable.{type_answer};
     ghost use Rattle.frames.specs.FrameAssignable.{frame_answer};
-    ghost use Rattle.type_numbers.specs.Numbers.{IsGiven};
+    ghost use Rattle.frames.specs.VerificationType.{VerificationType, top, uninit};
+    ghost use Rattle.frames.specs.Objects.{replaced as type_replaced};
+    ghost use Rattle.frames.specs.StackItems.{has_object};
+    ghost use Rattle.type_numbers.specs.Numbers.{IsGiven, IsNumber};
+    ghost use Rattle.method_frames.specs.ObjectLaws.{IsObjectType, ObjectBecomes};
     ghost use Rattle.type_numbers.specs.Decoding.{type_by, types_by};
     ghost use Rattle.method_frames.specs.Objects.{is_object, made_object, holds, replaced, initialized, IsClassNumber};
     ghost use Rattle.method_frames.specs.NumberedFrames.{frame_by, declared_frame};
@@ -260,7 +264,8 @@ impl<'t, 'c, 'n, C: Classes, S: BuildHasher> MethodFrames<'t, 'c, 'n, C, S> {
 
     /// Whether the object that the `new` at this offset made is on the stack of the running frame.
     pub fn has_made(&self, at: u16) -> bool
-        ensures { result ≡ holds (made_object at) self.now.running.stack }
+        ensures number { result ≡ holds (made_object at) self.now.running.stack }
+        ensures types { result ≡ has_object (uninit at) (types_by self.now.types self.now.running.stack) }
     {
         self.stacks.has(made_object(at))
     }
@@ -276,6 +281,8 @@ impl<'t, 'c, 'n, C: Classes, S: BuildHasher> MethodFrames<'t, 'c, 'n, C, S> {
         ensures size { length self.new.running.locals ≡ length self.old.running.locals }
         ensures ok { OnOk result (self.new.running.locals
             ≡ map (replaced (made_object at) 0) self.old.running.locals) }
+        ensures types { let s = self.old.types in OnOk result (types_by s self.new.running.locals
+            ≡ map (type_replaced (uninit at) top) (types_by s self.old.running.locals)) }
     {
         self.locals.replace(made_object(at), 0)
     }
@@ -288,6 +295,9 @@ impl<'t, 'c, 'n, C: Classes, S: BuildHasher> MethodFrames<'t, 'c, 'n, C, S> {
         ensures rest { self.new ≡ record self.old { running = self.new.running } }
         ensures size { length self.new.running.locals ≡ length self.old.running.locals }
         ensures ok { OnOk result (self.new.running ≡ initialized object class self.old.running) }
+        ensures types { let s = self.old.types in OnOk result ((o t : VerificationType)
+            → IsNumber s object o → IsNumber s class t → IsObjectType o
+            → ObjectBecomes o t (frame_by s self.old.running) (frame_by s self.new.running)) }
     {
         self.locals.replace(object, class)?;
         self.stacks.replace(object, class)?;

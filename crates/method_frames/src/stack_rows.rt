@@ -94,7 +94,11 @@ impl<'t, 'c, 'n, C: Classes, S: BuildHasher> StackRows<'t, 'c, 'n, C, S> {
     ghost use Rattle.insn.specs.Views.{stack_form_view};
     ghost use Rattle.frames.specs.Slots.{is_wide, units_of};
     ghost use Rattle.frames.specs.FrameAssignable.{item_answer, stack_answer};
-    ghost use Rattle.type_numbers.specs.Numbers.{Numbering, IsGiven};
+    ghost use Rattle.frames.specs.VerificationType.{VerificationType};
+    ghost use Rattle.frames.specs.Objects.{replaced as type_replaced};
+    ghost use Rattle.frames.specs.StackItems.{has_object};
+    ghost use Rattle.type_numbers.specs.Numbers.{Numbering, IsGiven, IsNumber};
+    ghost use Rattle.method_frames.specs.ObjectLaws.{IsObjectType};
     ghost use Rattle.type_numbers.specs.Decoding.{type_by, types_by};
     ghost use Rattle.method_frames.specs.NumberedStacks.{declared_stack};
     ghost use Rattle.method_frames.specs.Objects.{is_object, replaced, holds};
@@ -188,7 +192,9 @@ impl<'t, 'c, 'n, C: Classes, S: BuildHasher> StackRows<'t, 'c, 'n, C, S> {
     /// Whether an object that is not initialized is on the running stack.
     pub fn has(&self, object: u32) -> bool
         requires { is_object object ≡ true }
-        ensures { result ≡ holds object self.now.running }
+        ensures number { result ≡ holds object self.now.running }
+        ensures types { let s = self.now.types in (o : VerificationType) → IsNumber s object o → IsObjectType o
+            → result ≡ has_object o (types_by s self.now.running) }
     {
         self.items.has(object)
     }
@@ -202,6 +208,9 @@ impl<'t, 'c, 'n, C: Classes, S: BuildHasher> StackRows<'t, 'c, 'n, C, S> {
         requires given { IsGiven self.old.types by }
         ensures ok { OnOk result (self.new
             ≡ record self.old { running = map (replaced object by) self.old.running }) }
+        ensures types { let s = self.old.types in OnOk result ((o t : VerificationType)
+            → IsNumber s object o → IsNumber s by t → IsObjectType o
+            → types_by s self.new.running ≡ map (type_replaced o t) (types_by s self.old.running)) }
         ensures err { OnErr result (self.new ≡ self.old) }
     {
         let written = self.written;

@@ -65,11 +65,14 @@ fn replace_listed(
 
 impl<'t, 'c, 'n, C: Classes, S: BuildHasher> TypeRows<'t, 'c, 'n, C, S> {
     ghost use Rattle.std.specs.Prelude.{◌≡◌, ◌<◌, ◌∷◌, ◌++◌, ◌⊎◌, ℕ, true, false, [], length, map, replicate, slice_index, slice_set, IfOk, OnOk, OnErr};
+    ghost use Rattle.frames.specs.VerificationType.{VerificationType};
+    ghost use Rattle.frames.specs.Objects.{replaced as type_replaced};
+    ghost use Rattle.method_frames.specs.ObjectLaws.{IsObjectType};
     ghost use Rattle.method_frames.specs.Objects.{is_object, replaced};
     ghost use Rattle.hierarchy.specs.Answer.{outcome_of};
     ghost use Rattle.frames.specs.Assignable.{type_answer};
     ghost use Rattle.frames.specs.FrameAssignable.{list_answer};
-    ghost use Rattle.type_numbers.specs.Numbers.{IsGiven};
+    ghost use Rattle.type_numbers.specs.Numbers.{IsGiven, IsNumber};
     ghost use Rattle.type_numbers.specs.Decoding.{type_by, types_by};
     ghost use Rattle.method_frames.specs.TypeRows.{declared_in};
 
@@ -139,6 +142,9 @@ impl<'t, 'c, 'n, C: Classes, S: BuildHasher> TypeRows<'t, 'c, 'n, C, S> {
         ensures ok { OnOk result (self.new.running ≡ map (replaced object by) self.old.running) }
         ensures each { (place : ℕ) → (slice_index self.new.running place ≡ slice_index self.old.running place)
             ⊎ ((slice_index self.old.running place ≡ object) × (slice_index self.new.running place ≡ by)) }
+        ensures types { let s = self.old.types in OnOk result ((o t : VerificationType)
+            → IsNumber s object o → IsNumber s by t → IsObjectType o
+            → types_by s self.new.running ≡ map (type_replaced o t) (types_by s self.old.running)) }
     {
         replace_listed(object, by, &self.holders, &mut self.rows)
     }
