@@ -23,4 +23,5 @@ mod type_rows;
 mod widths;
 
 pub use method::MethodFrames;
+pub use objects::{OWN_OBJECT, is_object, made_object};
 pub use widths::is_wide;

@@ -5,6 +5,7 @@
 //!
 //! - `arrays`: instructions that make arrays of primitive types, and read and write elements of arrays.
 //! - `computing`: plain instructions, each with a function of its own.
+//! - `constructing`: calls of constructors; `making`: `new`.
 //! - `expected`: the expected types of operands, and whether a type meets one.
 //! - `families`: what several families of instructions share; loads and increments.
 //! - `kinds`: the numbers of the types that every method may name.
@@ -23,10 +24,12 @@ mod calls;
 mod class_names;
 mod computing;
 mod constants;
+mod constructing;
 mod expected;
 mod families;
 mod fields;
 mod kinds;
+mod making;
 mod named;
 mod operands;
 mod returning;
@@ -49,10 +52,12 @@ pub use computing::{
     throws,
 };
 pub use constants::{load_constant, load_wide_constant};
+pub use constructing::{OwnClasses, invoke_constructor};
 pub use expected::{Asked, Expected};
 pub use families::{counts, give, gives, judge_left, loads, pops, settle};
 pub use fields::{get_field, get_static, put_field, put_static};
 pub use kinds::{DOUBLE, FLOAT, INT, LONG, NULL, TOP, number_of};
+pub use making::new_object;
 pub use operands::take;
 pub use returning::{return_nothing, return_number, return_reference};
 pub use rule_numbers::{NamedFacts, RuleNumbers};
