@@ -1,5 +1,5 @@
 -- The units that items take, as they are counted.
-use Rattle.std.proofs.Common.{◌≡◌, ◌↔◌, ◌∙◌, ℕ, ◌+◌, ◌-◌, ◌≤◌, leb, List, [], ◌∷◌, ◌++◌, length, take, drop, reverse, refl, sym, ap, subst, arith}
+use Rattle.std.proofs.Common.{◌≡◌, ◌↔◌, ◌∙◌, ℕ, ◌+◌, ◌-◌, ◌≤◌, leb, List, [], ◌∷◌, ◌++◌, length, map, take, drop, reverse, refl, sym, ap, subst, arith}
 use Rattle.std.specs.Prelude.{IsTrue}
 use Rattle.std.proofs.lemmas.Bool.{le-leb, leb-true}
 use Rattle.std.proofs.lemmas.List.{map-append, length-append, length-map, length-drop, length-take-le, reverse-append, take-append-drop, take_rest}
@@ -44,11 +44,14 @@ module _ (xs : List ℕ) (n w k : ℕ) (wide : (s : Numbering) → width_of (typ
 -- ---- as they are told
 
 -- whichever end comes first
+pub map_reverse : {X Y : Type 0} (f : X → Y) (xs : List X) → map f (reverse xs) ≡ reverse (map f xs)
+map_reverse f [] = refl
+map_reverse f (x ∷ xs) =
+    ap (map f) (reverse-append (x ∷ []) xs) ∙ map-append f (reverse xs) (x ∷ [])
+    ∙ ap (λ ys. ys ++ f x ∷ []) (map_reverse f xs) ∙ sym (reverse-append (f x ∷ []) (map f xs))
+
 pub types_reverse : (s : Numbering) (xs : List ℕ) → types_by s (reverse xs) ≡ reverse (types_by s xs)
-types_reverse s [] = refl
-types_reverse s (x ∷ xs) =
-    ap (types_by s) (reverse-append (x ∷ []) xs) ∙ map-append (type_by s) (reverse xs) (x ∷ [])
-    ∙ ap (λ ts. ts ++ type_by s x ∷ []) (types_reverse s xs) ∙ sym (reverse-append (type_by s x ∷ []) (types_by s xs))
+types_reverse s xs = map_reverse (type_by s) xs
 
 pub units_told : (xs : List ℕ) (w : ℕ) → IsCounted xs w → (s : Numbering) → units_of (types_by s (reverse xs)) ≡ length xs + w
 units_told xs w c s = ap units_of (types_reverse s xs) ∙ units_reverse (types_by s xs) ∙ c.units s

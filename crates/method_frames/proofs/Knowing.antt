@@ -58,7 +58,7 @@ module _ (s : Numbering) (rows : Rows) (known : AreKnown s rows) where
   abbrev more : List (List ℕ)
   more = rows.declared ++ rows.running ∷ []
 
-  at_more : (row : ℕ) → row < length more → (P : List ℕ → Type 0) → ((k : ℕ) → k < length rows.declared → P (get_or rows.declared k [])) → P rows.running → P (get_or more row [])
+  pub at_more : (row : ℕ) → row < length more → (P : List ℕ → Type 0) → ((k : ℕ) → k < length rows.declared → P (get_or rows.declared k [])) → P rows.running → P (get_or more row [])
   at_more row lt P old new =
       let long : length more ≡ length rows.declared + 1 = length-append rows.declared (rows.running ∷ []) in
       elim (cases_lt row (length rows.declared)) [

@@ -1,5 +1,10 @@
 pub mod Given
+pub mod Listing
 pub mod Knowing
+pub mod Holding
+pub mod ObjectNumbers
+pub mod Among
+pub mod ObjectTypes
 pub mod Answering
 pub mod Walking
 pub mod Counting
@@ -9,6 +14,7 @@ pub mod StackAnswers
 pub mod Heights
 pub mod Stacks
 pub mod StackComparing
+pub mod StackReplacing
 pub mod Offsets
 pub mod MethodParts
 pub mod ItemMoves

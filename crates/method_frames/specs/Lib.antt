@@ -2,4 +2,6 @@ pub mod TypeRows
 pub mod NumberedStacks
 pub mod NumberedFrames
 pub mod MapFrames
+pub mod Objects
+pub mod ObjectLaws
 pub mod private

@@ -1,6 +1,7 @@
 -- Words of the code's own steps, which its private contracts use: nothing that a reader must believe rests on them.
 pub mod Known
 pub mod Counted
+pub mod Holders
 pub mod Stacks
 pub mod Frames
 pub mod Moves

@@ -1,5 +1,11 @@
 //! The items of an operand stack, by the numbers of their types.
+ghost use Rattle.std.specs.Prelude.{◌≡◌, ℕ, ◌≤◌, ◌-◌, true, length, map, reverse, take, OnOk};
+ghost use Rattle.insn.specs.Stacks.{rearranged};
+ghost use Rattle.insn.specs.Views.{stack_form_view};
+ghost use Rattle.method_frames.specs.Objects.{is_object, replaced, holds};
+ghost use Rattle.method_frames.specs.private.Holders.{AreListed, AreListedFrom, KeepsListed};
 
+use crate::holders::{Holders, place_in};
 use crate::moves::rearrange;
 use crate::widths::{extra, wides};
 use insn::StackForm;
@@ -7,33 +13,94 @@ use std::alloc::{AllocError, Global};
 use std::marker::Model;
 
 /// The items of an operand stack (JVMS 2.6.2), each by the number of its type. In contracts they are a list with the
-/// top first.
+/// top first. The places that came to hold an object which is not initialized are listed, so that one is found and
+/// replaced in time for these places.
 #[derive(Drop)]
 pub struct Items {
     /// From the bottom up.
     numbers: Vec<u32>,
     /// How many items are a long or a double.
     wides: usize,
+    holders: Holders,
 }
 
 impl Model for Items {
     ghost use Rattle.std.specs.Prelude.{ℕ, List, reverse};
-    ghost use Rattle.method_frames.specs.private.Counted.{IsCounted};
+    ghost use Rattle.method_frames.specs.private.Holders.{AreItems};
 
     ghost Value = { List ℕ };
 
     ghost view = { λ x. reverse x.numbers.items };
 
-    ghost invariant = { λ x. IsCounted x.numbers.items x.wides };
+    ghost invariant = { λ x. AreItems x.numbers.items x.wides x.holders };
+}
+
+/// Lists the items from a place up.
+fn list(numbers: &[u32], from: usize, holders: &mut Holders) -> Result<(), AllocError>
+    ensures kept { KeepsListed holders.old holders.new }
+    ensures listed { OnOk result (AreListedFrom from holders.new numbers.now) }
+{
+    for place in from..numbers.len() {
+        holders.list(numbers[place], place)?;
+    }
+    Ok(())
+}
+
+/// Takes the items of a form off, pushes what it leaves, and lists this. Nothing is said of the items where memory ran
+/// out.
+fn rearrange_listed(
+    form: StackForm,
+    numbers: &mut Vec<u32>,
+    holders: &mut Holders,
+) -> Result<(), AllocError>
+    requires few { length form.takes.now ≤ length numbers.old.items }
+    requires listed { AreListed holders.old numbers.old.items }
+    ensures all { OnOk result (reverse numbers.new.items
+        ≡ rearranged (stack_form_view form) (reverse numbers.old.items)) }
+    ensures same { OnOk result (take (length numbers.old.items - length form.takes.now) numbers.new.items
+        ≡ take (length numbers.old.items - length form.takes.now) numbers.old.items) }
+    ensures above { OnOk result (length numbers.old.items - length form.takes.now ≤ length numbers.new.items) }
+    ensures listed { OnOk result (AreListed holders.new numbers.new.items) }
+{
+    let below = numbers.len() - form.takes.len();
+    rearrange(form, numbers)?;
+    list(numbers, below, holders)
+}
+
+/// Whether an object is among items, by the places that came to hold it.
+fn has_listed(object: u32, holders: &Holders, numbers: &[u32]) -> bool
+    requires object { is_object object ≡ true }
+    requires listed { AreListed holders.now numbers.now }
+    ensures { result ≡ holds object numbers.now }
+{
+    for key in holders.of(object) {
+        let place = place_in(*key);
+        if place < numbers.len() && numbers[place] == object {
+            return true;
+        }
+    }
+    false
+}
+
+/// Puts a number in place of an object's, at the places that came to hold it.
+fn replace_listed(object: u32, by: u32, holders: &Holders, numbers: &mut Vec<u32>)
+    requires object { is_object object ≡ true }
+    requires listed { AreListed holders.now numbers.old.items }
+    ensures { numbers.new.items ≡ map (replaced object by) numbers.old.items }
+{
+    for key in holders.of(object) {
+        let place = place_in(*key);
+        if place < numbers.len() && numbers[place] == object {
+            numbers[place] = by;
+        }
+    }
 }
 
 impl Items {
-    ghost use Rattle.std.specs.Prelude.{◌≡◌, ◌↔◌, ◌+◌, ◌<◌, ◌≤◌, [], ◌∷◌, IsTrue, MatchOption, length, reverse, slice_index, slice_get, OnOk, OnErr};
-    ghost use Rattle.insn.specs.Stacks.{rearranged};
-    ghost use Rattle.insn.specs.Views.{stack_form_view};
-    ghost use Rattle.frames.specs.Slots.{units_of};
+    ghost use Rattle.std.specs.Prelude.{◌≡◌, ◌↔◌, ◌+◌, ◌<◌, ◌≤◌, [], ◌∷◌, true, false, IsTrue, MatchOption, length, map, reverse, slice_index, slice_get, OnOk, OnErr};
+    ghost use Rattle.frames.specs.Slots.{is_wide, units_of};
     ghost use Rattle.type_numbers.specs.Numbers.{Numbering};
-    ghost use Rattle.type_numbers.specs.Decoding.{types_by};
+    ghost use Rattle.type_numbers.specs.Decoding.{type_by, types_by};
 
     /// None.
     pub fn new(alloc: Global) -> Items
@@ -42,6 +109,7 @@ impl Items {
         Items {
             numbers: Vec::new(alloc),
             wides: 0,
+            holders: Holders::new(alloc),
         }
     }
 
@@ -79,6 +147,7 @@ impl Items {
         ensures ok { OnOk result (self.new ≡ number ∷ self.old) }
         ensures err { OnErr result (self.new ≡ self.old) }
     {
+        self.holders.list(number, self.numbers.len())?;
         self.numbers.push(number)?;
         self.wides += extra(number);
         Ok(())
@@ -101,6 +170,15 @@ impl Items {
         self.numbers.clear();
         self.wides = 0;
     }
+
+    /// Begins anew with none, and forgets which places came to hold objects. Keeps the memory.
+    pub fn restart(&mut self)
+        ensures { self.new ≡ [] }
+    {
+        self.clear();
+        self.holders.clear();
+    }
+
     /// The item that so many stand above.
     pub fn item(&self, above: usize) -> Option<u32>
         ensures { result ≡ slice_get self.now above }
@@ -119,12 +197,30 @@ impl Items {
     {
         let below = self.numbers.len() - form.takes.len();
         let before = wides(&self.numbers[below..]);
-        if let Err(error) = rearrange(form, &mut self.numbers) {
+        if let Err(error) = rearrange_listed(form, &mut self.numbers, &mut self.holders) {
             self.numbers.clear();
             self.wides = 0;
             return Err(error);
         }
         self.wides = self.wides - before + wides(&self.numbers[below..]);
         Ok(())
+    }
+
+    /// Whether an object that is not initialized is among them.
+    pub fn has(&self, object: u32) -> bool
+        requires { is_object object ≡ true }
+        ensures { result ≡ holds object self.now }
+    {
+        has_listed(object, &self.holders, &self.numbers)
+    }
+
+    /// Puts the number of a type that takes one unit in place of an object's, wherever that stands.
+    pub fn replace(&mut self, object: u32, by: u32)
+        requires object { is_object object ≡ true }
+        requires none { is_object by ≡ false }
+        requires narrow { (s : Numbering) → is_wide (type_by s by) ≡ false }
+        ensures { self.new ≡ map (replaced object by) self.old }
+    {
+        replace_listed(object, by, &self.holders, &mut self.numbers);
     }
 }

@@ -1,6 +1,7 @@
 //! The running frame of a method, and its declared frames.
 ghost use Rattle.std.specs.Prelude.{◌≡◌, ◌+◌, ◌<◌, ◌^◌, ℕ, length, slice_index, OnOk};
 
+use crate::objects::{OWN_OBJECT, made_object};
 use crate::stack_rows::StackRows;
 use crate::type_rows::TypeRows;
 use blocks::Row;
@@ -26,9 +27,13 @@ struct Declared {
 ///
 /// A declared frame is found by its offset, and known from then on by its place, in the order in which frames were
 /// declared. A comparison of the running frame with it takes time for what changed since the two were compared before.
-/// Where memory runs out, which is the only refusal, 1, all frames stay as they were, but for two calls:
-/// [`rearrange`](MethodFrames::rearrange) leaves the running frame without its stack, and [`take`](MethodFrames::take)
-/// says nothing of the running frame but how many locals it has.
+/// Where memory runs out, which is the only refusal, 1, all frames stay as they were, but for four calls:
+/// [`rearrange`](MethodFrames::rearrange) leaves the running frame without its stack, [`forget`](MethodFrames::forget)
+/// says nothing of its locals but how many they are, and [`take`](MethodFrames::take) and
+/// [`initialize`](MethodFrames::initialize) say nothing of it but how many locals it has.
+///
+/// An object that is not initialized is found and replaced in time for the places that came to hold it, and not for the
+/// length of a frame.
 #[derive(Drop)]
 pub struct MethodFrames<'t, 'c, 'n, C: Classes, S: BuildHasher> {
     locals: TypeRows<'t, 'c, 'n, C, S>,
@@ -71,15 +76,21 @@ fn place_at(offset: u16, places: &[usize]) -> usize
 }
 
 impl<'t, 'c, 'n, C: Classes, S: BuildHasher> MethodFrames<'t, 'c, 'n, C, S> {
-    ghost use Rattle.std.specs.Prelude.{◌↔◌, ◌≤◌, [], ◌∷◌, ◌++◌, None, Some, IsTrue, replicate, slice_set, slice_get, IfOk, IfSome, IsSomeAnd, MatchOption, OnErr};
-    ghost use Rattle.hierarchy.specs.Answer.{outcome_of};
+    ghost use Rattle.std.specs.Prelude.{◌↔◌, ◌≤◌, [], ◌∷◌, ◌++◌, true, false, None, Some, IsTrue, map, replicate, slice_set, slice_get, IfOk, IfSome, IsSomeAnd, MatchOption, OnErr};
+    ghost use Rattle.hierarchy.specs.Answer.{outcome_of, yes};
     ghost use Rattle.insn.specs.Offsets.{at_offset};
     ghost use Rattle.insn.specs.Stacks.{rearranged};
     ghost use Rattle.insn.specs.Views.{stack_form_view};
     ghost use Rattle.frames.specs.Slots.{units_of};
+    ghost use Rattle.frames.specs.Assignable.{type_answer};
     ghost use Rattle.frames.specs.FrameAssignable.{frame_answer};
-    ghost use Rattle.type_numbers.specs.Numbers.{IsGiven};
-    ghost use Rattle.type_numbers.specs.Decoding.{types_by};
+    ghost use Rattle.frames.specs.VerificationType.{VerificationType, top, uninit};
+    ghost use Rattle.frames.specs.Objects.{replaced as type_replaced};
+    ghost use Rattle.frames.specs.StackItems.{has_object};
+    ghost use Rattle.type_numbers.specs.Numbers.{IsGiven, IsNumber};
+    ghost use Rattle.method_frames.specs.ObjectLaws.{IsObjectType, ObjectBecomes};
+    ghost use Rattle.type_numbers.specs.Decoding.{type_by, types_by};
+    ghost use Rattle.method_frames.specs.Objects.{is_object, made_object, holds, replaced, initialized, IsClassNumber};
     ghost use Rattle.method_frames.specs.NumberedFrames.{frame_by, declared_frame};
 
     /// The running frame has so many locals, all of them top, and nothing on its stack. No frame is declared yet, and
@@ -106,6 +117,24 @@ impl<'t, 'c, 'n, C: Classes, S: BuildHasher> MethodFrames<'t, 'c, 'n, C, S> {
             declared: Vec::new(alloc),
             places: Vec::new(alloc),
         })
+    }
+
+    /// Begins anew, for another method of the same class: as [`new`](MethodFrames::new) says it, in the memory that there
+    /// is, and in time for what was used of it.
+    pub fn restart(&mut self, max_locals: u16, max_stack: u16, flag: bool)
+        ensures { self.new ≡ record {
+          types = self.old.types;
+          limit = max_stack;
+          running = record { locals = replicate max_locals 0; stack = []; flag = flag };
+          declared = [];
+        } }
+    {
+        self.locals.restart(max_locals);
+        self.max_locals = max_locals;
+        self.stacks.restart(max_stack);
+        self.flag = flag;
+        self.declared.clear();
+        self.places.clear();
     }
 
     /// The numbers that types have.
@@ -233,6 +262,51 @@ impl<'t, 'c, 'n, C: Classes, S: BuildHasher> MethodFrames<'t, 'c, 'n, C, S> {
         self.stacks.clear();
     }
 
+    /// Whether the object that the `new` at this offset made is on the stack of the running frame.
+    pub fn has_made(&self, at: u16) -> bool
+        ensures number { result ≡ holds (made_object at) self.now.running.stack }
+        ensures types { result ≡ has_object (uninit at) (types_by self.now.types self.now.running.stack) }
+    {
+        self.stacks.has(made_object(at))
+    }
+
+    /// Forgets the object that the `new` at this offset made: the locals of the running frame that hold it become top
+    /// (JVMS 4.10.1.9, new).
+    pub fn forget(&mut self, at: u16) -> Result<(), AllocError>
+        ensures rest { self.new ≡ record self.old {
+          running = record self.old.running {
+            locals = self.new.running.locals;
+          };
+        } }
+        ensures size { length self.new.running.locals ≡ length self.old.running.locals }
+        ensures ok { OnOk result (self.new.running.locals
+            ≡ map (replaced (made_object at) 0) self.old.running.locals) }
+        ensures types { let s = self.old.types in OnOk result (types_by s self.new.running.locals
+            ≡ map (type_replaced (uninit at) top) (types_by s self.old.running.locals)) }
+    {
+        self.locals.replace(made_object(at), 0)
+    }
+
+    /// Makes an object that was not initialized one of a class, by the number of that, wherever it stands in the running
+    /// frame; the own object is uninitialized no more (JVMS 4.10.1.9, invokespecial).
+    pub fn initialize(&mut self, object: u32, class: u32) -> Result<(), AllocError>
+        requires object { is_object object ≡ true }
+        requires class { IsClassNumber self.old.types class }
+        ensures rest { self.new ≡ record self.old { running = self.new.running } }
+        ensures size { length self.new.running.locals ≡ length self.old.running.locals }
+        ensures ok { OnOk result (self.new.running ≡ initialized object class self.old.running) }
+        ensures types { let s = self.old.types in OnOk result ((o t : VerificationType)
+            → IsNumber s object o → IsNumber s class t → IsObjectType o
+            → ObjectBecomes o t (frame_by s self.old.running) (frame_by s self.new.running)) }
+    {
+        self.locals.replace(object, class)?;
+        self.stacks.replace(object, class)?;
+        if object == OWN_OBJECT {
+            self.flag = false;
+        }
+        Ok(())
+    }
+
     /// Declares a frame at an offset in bytes: the running one, as it is now. Tells its place.
     pub fn declare(&mut self, offset: u16) -> Result<usize, AllocError>
         requires stack { length self.old.running.stack ≤ self.old.limit }
@@ -297,5 +371,51 @@ impl<'t, 'c, 'n, C: Classes, S: BuildHasher> MethodFrames<'t, 'c, 'n, C, S> {
         let locals = self.locals.answer(declared.locals);
         let stack = self.stacks.answer(declared.stack)?;
         Ok(both(locals, stack))
+    }
+
+    /// Whether the running frame with a type alone on its stack, in place of all items, may stand where a declared one is
+    /// wanted: so an exception of this type is caught by the handler of which that is the frame (JVMS 4.10.1.6). Takes no
+    /// memory.
+    pub fn answer_caught(&mut self, frame: usize, caught: u32) -> Answer<'n>
+        requires frame { frame < length self.old.declared }
+        requires given { IsGiven self.old.types caught }
+        ensures same { self.new ≡ self.old }
+        ensures told { outcome_of result ≡ frame_answer self.old.types.classes
+            (frame_by self.old.types (record self.old.running { stack = caught ∷ [] }))
+            (frame_by self.old.types (declared_frame self.old frame)) }
+    {
+        let declared = self.declared[frame];
+        if self.flag && !declared.flag {
+            return Answer::No;
+        }
+        let stack = self.stacks.answer_alone(declared.stack, caught);
+        if let Answer::No = stack {
+            return Answer::No;
+        }
+        let locals = self.locals.answer(declared.locals);
+        both(locals, stack)
+    }
+
+    /// The answer for a type where that of a local variable of a declared frame is wanted.
+    fn local_answer(&self, frame: usize, place: usize, number: u32) -> Answer<'n>
+        requires frame { frame < length self.now.declared }
+        requires given { IsGiven self.now.types number }
+        ensures { let s = self.now.types in outcome_of result ≡ type_answer s.classes (type_by s number)
+            (type_by s (slice_index (declared_frame self.now frame).locals place)) }
+    {
+        let declared = self.declared[frame];
+        let wanted = self.locals.declared(declared.locals, place);
+        self.types().assignable(number, wanted)
+    }
+
+    /// Whether a type may stand for a local variable of a declared frame; each may where there is no such local. Takes no
+    /// memory.
+    pub fn takes(&self, frame: usize, place: usize, number: u32) -> bool
+        requires frame { frame < length self.now.declared }
+        requires given { IsGiven self.now.types number }
+        ensures { let s = self.now.types in IsTrue result ↔ (type_answer s.classes (type_by s number)
+            (type_by s (slice_index (declared_frame self.now frame).locals place)) ≡ yes) }
+    {
+        matches!(self.local_answer(frame, place, number), Answer::Yes)
     }
 }

@@ -5,6 +5,7 @@ ghost use Rattle.method_frames.specs.private.Stacks.{Changes, Holds};
 
 use crate::items::Items;
 use crate::type_rows::TypeRows;
+use crate::widths::extra;
 use blocks::Row;
 use hierarchy::{Answer, Classes};
 use insn::StackForm;
@@ -87,15 +88,20 @@ fn read<C: Classes, S: BuildHasher>(
 }
 
 impl<'t, 'c, 'n, C: Classes, S: BuildHasher> StackRows<'t, 'c, 'n, C, S> {
-    ghost use Rattle.std.specs.Prelude.{◌≡◌, ◌↔◌, ◌<◌, ◌≤◌, [], ◌∷◌, ◌++◌, length, slice_index, slice_get, IsTrue, IfOk, IfSome, MatchOption, OnOk, OnErr};
+    ghost use Rattle.std.specs.Prelude.{◌≡◌, ◌↔◌, ◌<◌, ◌≤◌, [], ◌∷◌, ◌++◌, true, false, length, map, slice_index, slice_get, IsTrue, IfOk, IfSome, MatchOption, OnOk, OnErr};
     ghost use Rattle.hierarchy.specs.Answer.{outcome_of};
     ghost use Rattle.insn.specs.Stacks.{rearranged};
     ghost use Rattle.insn.specs.Views.{stack_form_view};
-    ghost use Rattle.frames.specs.Slots.{units_of};
+    ghost use Rattle.frames.specs.Slots.{is_wide, units_of};
     ghost use Rattle.frames.specs.FrameAssignable.{item_answer, stack_answer};
-    ghost use Rattle.type_numbers.specs.Numbers.{IsGiven};
-    ghost use Rattle.type_numbers.specs.Decoding.{types_by};
+    ghost use Rattle.frames.specs.VerificationType.{VerificationType};
+    ghost use Rattle.frames.specs.Objects.{replaced as type_replaced};
+    ghost use Rattle.frames.specs.StackItems.{has_object};
+    ghost use Rattle.type_numbers.specs.Numbers.{Numbering, IsGiven, IsNumber};
+    ghost use Rattle.method_frames.specs.ObjectLaws.{IsObjectType};
+    ghost use Rattle.type_numbers.specs.Decoding.{type_by, types_by};
     ghost use Rattle.method_frames.specs.NumberedStacks.{declared_stack};
+    ghost use Rattle.method_frames.specs.Objects.{is_object, replaced, holds};
 
     /// Stacks of which none that is declared has more items than this; the running one has none.
     pub fn new(
@@ -112,6 +118,17 @@ impl<'t, 'c, 'n, C: Classes, S: BuildHasher> StackRows<'t, 'c, 'n, C, S> {
             high: 0,
             declared: Vec::new(alloc),
         })
+    }
+
+    /// Begins anew, for another method of the same class: keeps the memory, and takes none.
+    pub fn restart(&mut self, limit: u16)
+        ensures { self.new ≡ record { types = self.old.types; limit = limit; running = []; declared = [] } }
+    {
+        self.items.restart();
+        self.rows.restart(limit);
+        self.written = 0;
+        self.high = 0;
+        self.declared.clear();
     }
 
     /// How many items the running stack has.
@@ -169,6 +186,38 @@ impl<'t, 'c, 'n, C: Classes, S: BuildHasher> StackRows<'t, 'c, 'n, C, S> {
             self.written = 0;
             return Err(error);
         }
+        Ok(())
+    }
+
+    /// Whether an object that is not initialized is on the running stack.
+    pub fn has(&self, object: u32) -> bool
+        requires { is_object object ≡ true }
+        ensures number { result ≡ holds object self.now.running }
+        ensures types { let s = self.now.types in (o : VerificationType) → IsNumber s object o → IsObjectType o
+            → result ≡ has_object o (types_by s self.now.running) }
+    {
+        self.items.has(object)
+    }
+
+    /// Puts the number of a type that takes one unit in place of an object's, throughout the running stack. The only
+    /// refusal is 1, and the stack stays as it was then.
+    pub fn replace(&mut self, object: u32, by: u32) -> Result<(), AllocError>
+        requires object { is_object object ≡ true }
+        requires none { is_object by ≡ false }
+        requires narrow { (s : Numbering) → is_wide (type_by s by) ≡ false }
+        requires given { IsGiven self.old.types by }
+        ensures ok { OnOk result (self.new
+            ≡ record self.old { running = map (replaced object by) self.old.running }) }
+        ensures types { let s = self.old.types in OnOk result ((o t : VerificationType)
+            → IsNumber s object o → IsNumber s by t → IsObjectType o
+            → types_by s self.new.running ≡ map (type_replaced o t) (types_by s self.old.running)) }
+        ensures err { OnErr result (self.new ≡ self.old) }
+    {
+        let written = self.written;
+        self.written = 0;
+        self.rows.replace(object, by)?;
+        self.items.replace(object, by);
+        self.written = written;
         Ok(())
     }
 
@@ -242,5 +291,23 @@ impl<'t, 'c, 'n, C: Classes, S: BuildHasher> StackRows<'t, 'c, 'n, C, S> {
         write(&self.items, self.written, height.depth, &mut self.rows)?;
         self.written = height.depth;
         Ok(self.rows.answer(height.row))
+    }
+
+    /// Whether a stack with an item of this type alone may stand where a declared one is wanted. Takes no memory.
+    pub fn answer_alone(&self, stack: usize, number: u32) -> Answer<'n>
+        requires stack { stack < length self.now.declared }
+        requires given { IsGiven self.now.types number }
+        ensures { let s = self.now.types in outcome_of result ≡ stack_answer (item_answer s.classes)
+            (type_by s number ∷ []) (types_by s (declared_stack self.now stack)) }
+    {
+        let height = self.declared[stack];
+        if height.depth != 1 {
+            return Answer::No;
+        }
+        if height.wides != extra(number) {
+            return Answer::No;
+        }
+        let wanted = self.rows.declared(height.row, 0);
+        self.rows.types().assignable(number, wanted)
     }
 }

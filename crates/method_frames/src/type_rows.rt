@@ -1,5 +1,10 @@
 //! Rows of types: of the running frame of a method, and of its declared frames.
+ghost use Rattle.std.specs.Prelude.{◌≡◌, ℕ, true, false, length, map, slice_index, OnOk};
+ghost use Rattle.blocks.specs.Rows.{Rows};
+ghost use Rattle.method_frames.specs.Objects.{is_object, replaced};
+ghost use Rattle.method_frames.specs.private.Holders.{AreListed, Replaces};
 
+use crate::holders::{Holders, place_in};
 use blocks::{Arena, Row};
 use frames::both;
 use hierarchy::{Answer, Classes};
@@ -13,15 +18,18 @@ use type_numbers::TypeNumbers;
 ///
 /// Rows share what they have in common ([`Arena`]). A running row that was seen to fit a declared one is compared with
 /// it again only where it changed, so that a comparison takes time for what changed and not for the length of a row.
+/// The places that came to hold an object which is not initialized are listed, so that it is replaced in time for these
+/// places.
 #[derive(Drop)]
 pub struct TypeRows<'t, 'c, 'n, C: Classes, S: BuildHasher> {
     types: &'t TypeNumbers<'c, 'n, C, S>,
     rows: Arena,
+    holders: Holders,
 }
 
 impl<'t, 'c, 'n, C: Classes, S: BuildHasher> Model for TypeRows<'t, 'c, 'n, C, S> {
     ghost use Rattle.method_frames.specs.TypeRows.{NumberedRows};
-    ghost use Rattle.method_frames.specs.private.Known.{AreKnown};
+    ghost use Rattle.method_frames.specs.private.Holders.{AreHeld};
 
     ghost Value = { NumberedRows };
 
@@ -31,15 +39,40 @@ impl<'t, 'c, 'n, C: Classes, S: BuildHasher> Model for TypeRows<'t, 'c, 'n, C, S
       declared = x.rows.declared;
     } };
 
-    ghost invariant = { λ x. AreKnown (x.types.now) x.rows };
+    ghost invariant = { λ x. AreHeld (x.types.now) x.rows x.holders };
+}
+
+/// Puts a number in place of an object's, at the places of the running row that came to hold it.
+fn replace_listed(
+    object: u32,
+    by: u32,
+    holders: &Holders,
+    rows: &mut Arena,
+) -> Result<(), AllocError>
+    requires object { is_object object ≡ true }
+    requires listed { AreListed holders.now rows.old.running }
+    ensures only { Replaces object by rows.old rows.new }
+    ensures all { OnOk result (rows.new.running ≡ map (replaced object by) rows.old.running) }
+{
+    for key in holders.of(object) {
+        let place = place_in(*key);
+        if place < rows.slots() && rows.get(place) == object {
+            rows.set(place, by)?;
+        }
+    }
+    Ok(())
 }
 
 impl<'t, 'c, 'n, C: Classes, S: BuildHasher> TypeRows<'t, 'c, 'n, C, S> {
-    ghost use Rattle.std.specs.Prelude.{◌≡◌, ◌<◌, ◌∷◌, ◌++◌, [], length, replicate, slice_index, slice_set, IfOk, OnOk, OnErr};
+    ghost use Rattle.std.specs.Prelude.{◌≡◌, ◌<◌, ◌∷◌, ◌++◌, ◌⊎◌, ℕ, true, false, [], length, map, replicate, slice_index, slice_set, IfOk, OnOk, OnErr};
+    ghost use Rattle.frames.specs.VerificationType.{VerificationType};
+    ghost use Rattle.frames.specs.Objects.{replaced as type_replaced};
+    ghost use Rattle.method_frames.specs.ObjectLaws.{IsObjectType};
+    ghost use Rattle.method_frames.specs.Objects.{is_object, replaced};
     ghost use Rattle.hierarchy.specs.Answer.{outcome_of};
     ghost use Rattle.frames.specs.Assignable.{type_answer};
     ghost use Rattle.frames.specs.FrameAssignable.{list_answer};
-    ghost use Rattle.type_numbers.specs.Numbers.{IsGiven};
+    ghost use Rattle.type_numbers.specs.Numbers.{IsGiven, IsNumber};
     ghost use Rattle.type_numbers.specs.Decoding.{type_by, types_by};
     ghost use Rattle.method_frames.specs.TypeRows.{declared_in};
 
@@ -58,7 +91,16 @@ impl<'t, 'c, 'n, C: Classes, S: BuildHasher> TypeRows<'t, 'c, 'n, C, S> {
         Ok(TypeRows {
             types,
             rows: Arena::new(alloc, count)?,
+            holders: Holders::new(alloc),
         })
+    }
+
+    /// Begins anew, for another method of the same class: keeps the memory, and takes none.
+    pub fn restart(&mut self, count: u16)
+        ensures { self.new ≡ record { types = self.old.types; running = replicate count 0; declared = [] } }
+    {
+        self.rows.restart(count);
+        self.holders.clear();
     }
 
     /// The numbers that types have.
@@ -85,7 +127,39 @@ impl<'t, 'c, 'n, C: Classes, S: BuildHasher> TypeRows<'t, 'c, 'n, C, S> {
         ensures ok { OnOk result (self.new ≡ record self.old { running = slice_set self.old.running place number }) }
         ensures err { OnErr result (self.new ≡ self.old) }
     {
+        self.holders.list(number, place)?;
         self.rows.set(place, number)
+    }
+
+    /// Puts a number in place of an object's, throughout the running row. The only refusal is 1, and then some of the
+    /// places may hold that number already.
+    pub fn replace(&mut self, object: u32, by: u32) -> Result<(), AllocError>
+        requires object { is_object object ≡ true }
+        requires by { is_object by ≡ false }
+        requires given { IsGiven self.old.types by }
+        ensures rest { self.new ≡ record self.old { running = self.new.running } }
+        ensures size { length self.new.running ≡ length self.old.running }
+        ensures ok { OnOk result (self.new.running ≡ map (replaced object by) self.old.running) }
+        ensures each { (place : ℕ) → (slice_index self.new.running place ≡ slice_index self.old.running place)
+            ⊎ ((slice_index self.old.running place ≡ object) × (slice_index self.new.running place ≡ by)) }
+        ensures types { let s = self.old.types in OnOk result ((o t : VerificationType)
+            → IsNumber s object o → IsNumber s by t → IsObjectType o
+            → types_by s self.new.running ≡ map (type_replaced o t) (types_by s self.old.running)) }
+    {
+        replace_listed(object, by, &self.holders, &mut self.rows)
+    }
+
+    /// The number at a place of a declared row; 0, which is that of Top, where there is no such place.
+    pub fn declared(&self, row: Row, place: usize) -> u32
+        requires { row < length self.now.declared }
+        ensures number { result ≡ slice_index (declared_in self.now row) place }
+        ensures given { IsGiven self.now.types result }
+    {
+        if place < self.rows.slots() {
+            self.rows.get_declared(row, place)
+        } else {
+            0
+        }
     }
 
     /// Declares a row that holds what the running one does. The only refusal is 1.

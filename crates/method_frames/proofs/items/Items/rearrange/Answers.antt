@@ -10,22 +10,22 @@ overflow_sub-self c =
     let long : length old ≡ length c.args.self.now = sym (length-reverse old) ∙ ap length c.self.view_is in
     let fits : length c.args.form.takes.now ≤ length old = omega (arith, c.requires, long) in
     let b = length old - length c.args.form.takes.now in
-    enough_wides old c.rearrange.new.stack.items b x.wides c.wides-before.result 0 c.in_default.ensures.kept (omega arith) c.in_default.ensures.above c.self.invariant
+    enough_wides old c.rearrange_listed.new.numbers.items b x.wides c.wides-before.result 0 c.in_default.ensures.same (omega arith) c.in_default.ensures.above c.self.invariant.counted
     (above_counted old c.deref.result.now b _ c.wides-before.result c.deref.ensures.value (omega arith) c.wides-before.ensures)
 
 pub overflow_add-self : goal.overflow_add-self
 overflow_add-self c =
     let x = c.self.inside in
     let old = x.numbers.items in
-    let new = c.rearrange.new.stack.items in
+    let new = c.rearrange_listed.new.numbers.items in
     let long : length old ≡ length c.args.self.now = sym (length-reverse old) ∙ ap length c.self.view_is in
     let fits : length c.args.form.takes.now ≤ length old = omega (arith, c.requires, long) in
     let b = length old - length c.args.form.takes.now in
     omega (
       arith,
-      c.rearrange.new.stack.ok.0,
+      c.rearrange_listed.new.numbers.ok.0,
       wides_most new (x.wides - c.wides-before.result + c.wides.result)
-          (wides_then old new b x.wides c.wides-before.result c.wides.result c.in_default.ensures.kept (omega arith) c.in_default.ensures.above c.self.invariant
+          (wides_then old new b x.wides c.wides-before.result c.wides.result c.in_default.ensures.same (omega arith) c.in_default.ensures.above c.self.invariant.counted
           (above_counted old c.deref.result.now b _ c.wides-before.result c.deref.ensures.value (omega arith) c.wides-before.ensures)
           (above_counted new c.deref-2.result.now b _ c.wides.result c.deref-2.ensures.value (omega arith) c.wides.ensures)),
     )
@@ -34,10 +34,13 @@ pub invariant_of-self-2 : goal.invariant_of-self-2
 invariant_of-self-2 c =
     let x = c.self.inside in
     let old = x.numbers.items in
-    let new = c.rearrange.new.stack.items in
+    let new = c.rearrange_listed.new.numbers.items in
     let long : length old ≡ length c.args.self.now = sym (length-reverse old) ∙ ap length c.self.view_is in
     let fits : length c.args.form.takes.now ≤ length old = omega (arith, c.requires, long) in
     let b = length old - length c.args.form.takes.now in
-    wides_then old new b x.wides c.wides-before.result c.wides.result c.in_default.ensures.kept (omega arith) c.in_default.ensures.above c.self.invariant
+    record {
+      counted = wides_then old new b x.wides c.wides-before.result c.wides.result c.in_default.ensures.same (omega arith) c.in_default.ensures.above c.self.invariant.counted
     (above_counted old c.deref.result.now b _ c.wides-before.result c.deref.ensures.value (omega arith) c.wides-before.ensures)
-    (above_counted new c.deref-2.result.now b _ c.wides.result c.deref-2.ensures.value (omega arith) c.wides.ensures)
+    (above_counted new c.deref-2.result.now b _ c.wides.result c.deref-2.ensures.value (omega arith) c.wides.ensures);
+      listed = c.in_default.ensures.listed;
+    }

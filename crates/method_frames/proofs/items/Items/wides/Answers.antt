@@ -8,5 +8,5 @@ use Rattle.method_frames.proofs.items.Items.wides.Goals as goal
 pub returns : goal.returns
 returns c = λ s.
     let x = c.self.inside in
-    ap (λ ns. units_of (types_by s ns)) (sym c.self.view_is) ∙ units_told x.numbers.items x.wides c.self.invariant s
+    ap (λ ns. units_of (types_by s ns)) (sym c.self.view_is) ∙ units_told x.numbers.items x.wides c.self.invariant.counted s
     ∙ ap (λ n. n + x.wides) (sym (length-reverse x.numbers.items) ∙ ap length c.self.view_is)

@@ -4,6 +4,7 @@ use Rattle.frames.specs.Assignable.{type_answer}
 use Rattle.frames.specs.FrameAssignable.{list_answer}
 use Rattle.type_numbers.specs.Decoding.{types_by}
 use Rattle.method_frames.specs.TypeRows.{declared_in}
+use Rattle.method_frames.proofs.Holding.{noted_held}
 use Rattle.method_frames.proofs.Walking.{said_known}
 use Rattle.method_frames.proofs.type_rows.TypeRows.answer.Goals as goal
 
@@ -13,4 +14,5 @@ invariant_of-self g c =
     let row = subst (λ y. c.args.row < length y.declared) (sym c.self.view_is) c.requires.row in
     let all = subst (λ y. list_answer (type_answer y.types.classes) (types_by y.types y.running) (types_by y.types (declared_in y c.args.row)) ≡ yes)
     (sym c.self.view_is) (sym c.answer_anew-answer.ensures ∙ ap outcome_of c.in-Yes.is) in
-    said_known x.types.now x.rows c.note_fit.new.self c.args.row row c.self.invariant c.note_fit.ensures all
+    noted_held x.types.now x.rows c.note_fit.new.self x.holders (said_known x.types.now x.rows c.note_fit.new.self c.args.row row c.self.invariant.known c.note_fit.ensures all)
+    c.note_fit.ensures.running c.note_fit.ensures.declared c.self.invariant
