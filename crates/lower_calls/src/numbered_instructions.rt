@@ -26,9 +26,9 @@ use std::hash::BuildHasher;
 use std::test::*;
 use type_numbers::{ConstantTable, TypeNumbers};
 
-/// The class file of K, whose constants are 11 for its field f, an int, 14 and 15 for methods f of K and of an interface
-/// Object, each of an int to a K, 16 and 17 for an int and a long, and 20 for arrays of two dimensions. Its constructor
-/// has two local variables, and room for four units on the stack.
+/// The class file of K, whose constants are 11 for its field f, an int, 14 and 15 for methods f of K and of an
+/// interface Object, each of an int to a K, 16 and 17 for an int and a long, and 20 for arrays of two dimensions. Its
+/// constructor has two local variables, and room for four units on the stack.
 const NAMING: [u8; 169] = [
     202, 254, 186, 190, 0, 0, 0, 52, 0, 21, 7, 0, 2, 1, 0, 1, 75, 7, 0, 4, 1, 0, 16, 106, 97, 118,
     97, 47, 108, 97, 110, 103, 47, 79, 98, 106, 101, 99, 116, 1, 0, 6, 60, 105, 110, 105, 116, 62,

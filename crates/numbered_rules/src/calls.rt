@@ -28,8 +28,8 @@ use rules::Reason;
 use std::hash::BuildHasher;
 use type_numbers::{ConstantTable, MethodNumbers};
 
-/// A call of a method of these types, with its arguments on a receiver, if it has one. Its refusals are 61 and 62, those
-/// of [`judge_left`](crate::judge_left), and 1 where memory runs out.
+/// A call of a method of these types, with its arguments on a receiver, if it has one. Its refusals are 61 and 62,
+/// those of [`judge_left`](crate::judge_left), and 1 where memory runs out.
 fn calls<'n, C: Classes, S: BuildHasher>(
     method: &CodeMethod<'_, '_>,
     called: MethodNumbers,
@@ -56,8 +56,8 @@ fn calls<'n, C: Classes, S: BuildHasher>(
     }
 }
 
-/// Whether `invokestatic` and `invokespecial` may name a method, which is one of an interface or not: from version 52 on
-/// one of an interface too (JVMS 4.9.1).
+/// Whether `invokestatic` and `invokespecial` may name a method, which is one of an interface or not: from version 52
+/// on one of an interface too (JVMS 4.9.1).
 pub fn may_name(major: u16, interface: bool) -> bool
     ensures { result ≡ may_name major interface }
 {

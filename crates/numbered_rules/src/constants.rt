@@ -24,8 +24,8 @@ use std::hash::BuildHasher;
 use type_numbers::ConstantTable;
 
 /// Pushes the value of a Dynamic constant of the type of a number, which takes two units where `wide` says so: 66 where
-/// there is no type or it takes another number of units, and 90 where the class has no bootstrap method for the constant
-/// that may be used.
+/// there is no type or it takes another number of units, and 90 where the class has no bootstrap method for the
+/// constant that may be used.
 fn gives_computed<'n, C: Classes, S: BuildHasher>(
     method: &CodeMethod<'_, '_>,
     wide: bool,
@@ -34,7 +34,8 @@ fn gives_computed<'n, C: Classes, S: BuildHasher>(
     frames: &mut MethodFrames<'_, '_, 'n, C, S>,
 ) -> Result<(), Reason<'n>>
     requires { (t : Option FieldDescriptor) × IsNumberOf frames.old.types computed (option_map descriptor_type t) }
-    ensures done { (at : ℕ) (t : Option FieldDescriptor) → IsNumberOf frames.old.types computed (option_map descriptor_type t)
+    ensures done { (at : ℕ) (t : Option FieldDescriptor)
+        → IsNumberOf frames.old.types computed (option_map descriptor_type t)
         → let m = method_view method.now in let f = held frames.old in
         let p = load_dynamic (units_by wide) bootstrapped t in
         Done (conditions frames.old.types.classes m at p f) (after m at p f) (held frames.new) result }
@@ -63,9 +64,11 @@ fn loads_computed<'n, C: Classes, S: BuildHasher>(
     frames: &mut MethodFrames<'_, '_, 'n, C, S>,
 ) -> Result<(), Reason<'n>>
     requires table { IsTable frames.old.types (method_view method.now).constant_pool table.now }
-    requires bootstrapped { let m = method_view method.now in bootstrapped ≡ is_bootstrapped m (constant_at m.constant_pool index) }
+    requires bootstrapped { let m = method_view method.now in
+        bootstrapped ≡ is_bootstrapped m (constant_at m.constant_pool index) }
     ensures done { (at : ℕ) → let m = method_view method.now in let f = held frames.old in
-        let p = load_computed m (units_by wide) (dynamic_type_at m.constant_pool index) (constant_at m.constant_pool index) in
+        let p = load_computed m (units_by wide) (dynamic_type_at m.constant_pool index)
+        (constant_at m.constant_pool index) in
         Done (conditions frames.old.types.classes m at p f) (after m at p f) (held frames.new) result }
     ensures rest { IsRunning frames.old frames.new }
 {
@@ -94,7 +97,8 @@ pub fn load_constant<'n, C: Classes, S: BuildHasher>(
     frames: &mut MethodFrames<'_, '_, 'n, C, S>,
 ) -> Result<(), Reason<'n>>
     requires table { IsTable frames.old.types (method_view method.now).constant_pool table.now }
-    requires bootstrapped { let m = method_view method.now in bootstrapped ≡ is_bootstrapped m (constant_at m.constant_pool index) }
+    requires bootstrapped { let m = method_view method.now in
+        bootstrapped ≡ is_bootstrapped m (constant_at m.constant_pool index) }
     ensures done { (at : ℕ) → let m = method_view method.now in let f = held frames.old in
         let p = load_constant m (dynamic_type_at m.constant_pool index) (constant_at m.constant_pool index) in
         Done (conditions frames.old.types.classes m at p f) (after m at p f) (held frames.new) result }
@@ -119,7 +123,8 @@ pub fn load_wide_constant<'n, C: Classes, S: BuildHasher>(
     frames: &mut MethodFrames<'_, '_, 'n, C, S>,
 ) -> Result<(), Reason<'n>>
     requires table { IsTable frames.old.types (method_view method.now).constant_pool table.now }
-    requires bootstrapped { let m = method_view method.now in bootstrapped ≡ is_bootstrapped m (constant_at m.constant_pool index) }
+    requires bootstrapped { let m = method_view method.now in
+        bootstrapped ≡ is_bootstrapped m (constant_at m.constant_pool index) }
     ensures done { (at : ℕ) → let m = method_view method.now in let f = held frames.old in
         let p = load_wide_constant m (dynamic_type_at m.constant_pool index) (constant_at m.constant_pool index) in
         Done (conditions frames.old.types.classes m at p f) (after m at p f) (held frames.new) result }

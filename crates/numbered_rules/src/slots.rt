@@ -32,8 +32,8 @@ fn free_half<C: Classes, S: BuildHasher>(
     Ok(())
 }
 
-/// Stores a type to a local variable (JVMS 4.10.1.2). A long or double makes the next one top; where the one before held
-/// a long or double, that becomes top.
+/// Stores a type to a local variable (JVMS 4.10.1.2). A long or double makes the next one top; where the one before
+/// held a long or double, that becomes top.
 pub fn store<C: Classes, S: BuildHasher>(
     number: u32,
     place: usize,

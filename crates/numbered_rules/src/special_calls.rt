@@ -40,7 +40,8 @@ fn calls_special<'n, C: Classes, S: BuildHasher>(
     requires me { IsNumber frames.old.types me (class (method_view method.now).class) }
     ensures done { (at : ℕ) (c : MethodConstant) → IsMethod frames.old.types (arguments_of table.now) called c
         → let m = method_view method.now in let f = held frames.old in
-        let p = calls_special c.class (arguments_on c.type.params (expected_class m.class ∷ [])) (result_types c.type.result) in
+        let p = calls_special c.class (arguments_on c.type.params (expected_class m.class ∷ []))
+        (result_types c.type.result) in
         Done (conditions frames.old.types.classes m at p f) (after m at p f) (held frames.new) result }
     ensures rest { IsRunning frames.old frames.new }
 {

@@ -84,7 +84,8 @@ member_name pool name_and_type = name_by (constant_at pool name_and_type) (λ i.
 
 -- a NameAndType names an instance initialization method, or has a name that begins with '<'
 abbrev pub is_init_named : List Entry → ℕ → Bool
-is_init_named pool name_and_type = option_map_or (λ name. bytes_eq name init_name) (member_name pool name_and_type) false
+is_init_named pool name_and_type =
+    option_map_or (λ name. bytes_eq name init_name) (member_name pool name_and_type) false
 
 abbrev pub is_special_named : List Entry → ℕ → Bool
 is_special_named pool name_and_type = option_map_or (begins_with less_than) (member_name pool name_and_type) false
