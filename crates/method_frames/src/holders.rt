@@ -73,7 +73,8 @@ impl Holders {
     pub fn of(&self, object: u32) -> Range<'_, u64>
         ensures { AreOf self.now object result }
     {
-        self.keys.range(key_of(object, 0)..=key_of(object, u32::MAX))
+        self.keys
+            .range(key_of(object, 0)..=key_of(object, u32::MAX))
     }
 
     /// Forgets all.

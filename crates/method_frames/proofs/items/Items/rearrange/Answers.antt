@@ -40,7 +40,7 @@ invariant_of-self-2 c =
     let b = length old - length c.args.form.takes.now in
     record {
       counted = wides_then old new b x.wides c.wides-before.result c.wides.result c.in_default.ensures.same (omega arith) c.in_default.ensures.above c.self.invariant.counted
-    (above_counted old c.deref.result.now b _ c.wides-before.result c.deref.ensures.value (omega arith) c.wides-before.ensures)
-    (above_counted new c.deref-2.result.now b _ c.wides.result c.deref-2.ensures.value (omega arith) c.wides.ensures);
+          (above_counted old c.deref.result.now b _ c.wides-before.result c.deref.ensures.value (omega arith) c.wides-before.ensures)
+          (above_counted new c.deref-2.result.now b _ c.wides.result c.deref-2.ensures.value (omega arith) c.wides.ensures);
       listed = c.in_default.ensures.listed;
     }
