@@ -326,7 +326,7 @@ fn is_initialized<C: Classes>(
     let own = n.ours == OWN_OBJECT;
     let ready = frames.local(18) == class && frames.item(1) == Some(class) && frames.flag() != own;
     frames.take(0)?;
-    let back = is_as_declared(&frames, n);
+    let back = frames.local(18) == n.ours && frames.item(1) == Some(n.ours) && frames.flag();
     initialize(&mut frames, n.ours, class)?;
     Ok(ready && back && frames.local(18) == class && frames.item(1) == Some(class))
 }
