@@ -9,7 +9,6 @@
 //! | `assignability` | `frames`: one type or frame where another is wanted |
 //! | `differences` | `frames`: the first difference of two frames, and the first class that is missing |
 //! | `packed_frames` | `frames`: types as slots, and frames compared by them |
-//! | `numbered_maps` | `method_frames`: frames of a stack map by numbers, declared and refused |
 //! | `numbered_types` | `type_numbers`: types as numbers, and tables of constants by them |
 //! | `numbered_frames` | `method_frames`: frames by numbers, changed, declared, found, taken on and compared |
 //! | `numbered_instructions` | `numbered_rules`: instructions on frames by numbers |
@@ -44,8 +43,6 @@ pub mod making;
 mod numbered_frames;
 #[cfg(test)]
 mod numbered_instructions;
-#[cfg(test)]
-mod numbered_maps;
 #[cfg(test)]
 mod numbered_types;
 #[cfg(test)]

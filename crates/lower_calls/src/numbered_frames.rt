@@ -1,12 +1,11 @@
 ghost use Rattle.std.specs.Prelude.{◌≡◌, ◌+◌, ◌<◌, ◌≤◌, length, IfOk, OnOk};
 ghost use Rattle.type_numbers.specs.Numbers.{IsGiven};
-ghost use Rattle.method_frames.specs.Objects.{IsClassNumber};
 
 use crate::making::{A, B, frame, hasher, setting};
 use frames::{Frame, VType, frame_assignable};
 use hierarchy::{Answer, Classes, Rows};
 use insn::StackOperator;
-use method_frames::{MethodFrames, OWN_OBJECT, is_object};
+use method_frames::MethodFrames;
 use names::OBJECT;
 use std::alloc::{AllocError, Global};
 use std::hash::BuildHasher;
@@ -297,53 +296,32 @@ fn is_forgotten<C: Classes>(alloc: Global, classes: &C) -> Result<bool, AllocErr
     Ok(made && frames.local(3) == 0 && frames.local(18) == 0 && frames.item(1) == Some(n.ours))
 }
 
-/// Initializes an object, where the numbers are those of one and of a class.
-fn initialize<C: Classes, S: BuildHasher>(
-    frames: &mut MethodFrames<'_, '_, '_, C, S>,
-    object: u32,
-    class: u32,
-) -> Result<(), AllocError>
-    requires { IsClassNumber frames.old.types class }
-    ensures { frames.new ≡ record frames.old { running = frames.new.running } }
-{
-    if is_object(object) {
-        frames.initialize(object, class)?;
-    }
-    Ok(())
-}
-
-/// Whether an object is of its class wherever it stood, and stands in a declared frame as before.
-fn is_initialized<C: Classes>(
+/// Frames of which one is declared at 5, with one item on the stack and its type in local 1 of 2.
+fn caught_at_5<'t, 'c, 'n, C: Classes, S: BuildHasher>(
     alloc: Global,
-    classes: &C,
-    object: VType<'_>,
-) -> Result<bool, AllocError> {
-    let mut types = TypeNumbers::new(alloc, classes, hasher());
-    let class = types.number(&A)?;
-    let n = given_numbers(&mut types, (object, A))?;
-    let mut frames = declared_at_7(alloc, &types, n)?;
-    initialize(&mut frames, n.ours, class)?;
-    let own = n.ours == OWN_OBJECT;
-    let ready = frames.local(18) == class && frames.item(1) == Some(class) && frames.flag() != own;
-    frames.take(0)?;
-    let back = frames.local(18) == n.ours && frames.item(1) == Some(n.ours) && frames.flag();
-    initialize(&mut frames, n.ours, class)?;
-    Ok(ready && back && frames.local(18) == class && frames.item(1) == Some(class))
+    types: &'t TypeNumbers<'c, 'n, C, S>,
+    n: Numbers,
+) -> Result<MethodFrames<'t, 'c, 'n, C, S>, AllocError>
+    requires theirs { IsGiven types.now n.theirs }
+    ensures types { IfOk result (λ x. x.types ≡ types.now) }
+    ensures declared { IfOk result (λ x. length x.declared ≡ 1) }
+{
+    let mut frames = MethodFrames::new(alloc, types, 2, 2, false)?;
+    put(&mut frames, 1, n.theirs)?;
+    frames.push(n.theirs)?;
+    frames.declare(5)?;
+    Ok(frames)
 }
 
 /// Whether an exception is caught by a frame with one item that takes it, and a local of that frame takes its type.
 fn is_caught<C: Classes>(alloc: Global, classes: &C) -> Result<bool, AllocError> {
     let mut types = TypeNumbers::new(alloc, classes, hasher());
     let n = given_numbers(&mut types, (A, VType::Class(OBJECT)))?;
-    let mut frames = MethodFrames::new(alloc, &types, 2, 2, false)?;
-    put(&mut frames, 1, n.theirs)?;
-    frames.push(n.theirs)?;
-    let handler = frames.declare(5)?;
-    frames.push(n.int)?;
-    let caught = frames.answer_caught(handler, n.ours) == Answer::Yes
-        && frames.answer_caught(handler, n.int) == Answer::No;
-    let takes = frames.takes(handler, 1, n.ours) && !frames.takes(handler, 1, n.int);
-    Ok(caught && takes && frames.takes(handler, 2, n.int))
+    let mut frames = caught_at_5(alloc, &types, n)?;
+    let caught = frames.answer_caught(0, n.ours) == Answer::Yes;
+    let others = frames.answer_caught(0, n.int) == Answer::No;
+    let takes = frames.takes(0, 1, n.ours);
+    Ok(caught && others && takes && !frames.takes(0, 1, n.int) && frames.takes(0, 0, n.int))
 }
 
 /// Whether frames begin anew for another method.
@@ -353,22 +331,16 @@ fn begins_anew<C: Classes>(alloc: Global, classes: &C) -> Result<bool, AllocErro
     let mut frames = declared_at_7(alloc, &types, n)?;
     frames.restart(30, 1, false);
     let none = frames.find(7).is_none() && frames.depth() == 0 && !frames.flag();
-    put(&mut frames, 29, n.int)?;
     let declared = frames.declare(7)?;
-    let locals = frames.max_locals() == 30 && frames.local(18) == 0 && frames.local(29) == n.int;
+    let locals = frames.max_locals() == 30 && frames.local(18) == 0 && frames.local(29) == 0;
     Ok(none && locals && frames.answer(declared)? == Answer::Yes)
-}
-
-fn objects_hold<C: Classes>(alloc: Global, classes: &C) -> Result<bool, AllocError> {
-    let made = is_forgotten(alloc, classes)? && is_initialized(alloc, classes, VType::Uninit(9))?;
-    Ok(made && is_initialized(alloc, classes, VType::UninitThis)?)
 }
 
 fn all_hold<C: Classes>(alloc: Global, classes: &C) -> Result<bool, AllocError> {
     let frames = is_taken(alloc, classes)? && flags_count(alloc, classes)?;
     let items = are_popped(alloc, classes)? && is_moved(alloc, classes)?;
     let others = is_caught(alloc, classes)? && begins_anew(alloc, classes)?;
-    Ok(frames && items && others && objects_hold(alloc, classes)?)
+    Ok(frames && items && others && is_forgotten(alloc, classes)?)
 }
 
 /// Whether all that is said of frames by numbers holds; or memory ran out, where it may.
