@@ -9,8 +9,8 @@ use Rattle.std.proofs.Math.Nat.{mod-eq_of_lt}
 use Rattle.std.proofs.lemmas.Bool.{cases_eq, cases_lt, or_right}
 use Rattle.std.proofs.lemmas.List.FromFn.{length-map-range_with_len, get_or-map-range_with_len}
 use Rattle.blocks.specs.declared.node.Node.{Node}
-use Rattle.blocks.specs.Rows.{Rows, declared_row, is_decided, IsSettled, IsFirstUndecided, StandsAt, IsSaidToFit}
-use Rattle.blocks.specs.private.Trees.{node_at, level_of, below, number_at, width, IsTree, IsPut, IsKnown, IsSettledBelow, IsFirstUndecidedBelow, Keeps, SharesSame, NotesOnly}
+use Rattle.blocks.specs.Rows.{Rows, declared_row, is_decided, IsSettled, IsFirstUndecided, IsFirstUnequal, StandsAt, IsSaidToFit}
+use Rattle.blocks.specs.private.Trees.{node_at, level_of, below, number_at, width, IsTree, IsPut, IsKnown, IsSettledBelow, IsFirstUndecidedBelow, IsEqualBelow, IsFirstUnequalBelow, Keeps, SharesSame, NotesOnly}
 use Rattle.blocks.specs.private.Arenas.{row_of, pairs_of, known_pairs, rows_of, IsArena, AreEmpty}
 use Rattle.blocks.proofs.Places.{number_modulo}
 use Rattle.blocks.specs.private.Blocks.{place_in}
@@ -29,7 +29,7 @@ map_at f [] i lt = absurd (omega (arith, lt))
 map_at f (x ∷ ids) zero lt = refl
 map_at f (x ∷ ids) (suc i) lt = map_at f ids i (omega (arith, lt))
 
-module _ (ns : List Node) (root count : ℕ) (declared : List ℕ) (rows : Rows) (is : rows_of ns root count declared ≡ rows) where
+module _ (ns : List Node) (root kept count : ℕ) (declared : List ℕ) (rows : Rows) (is : rows_of ns root kept count declared ≡ rows) where
   pub running_length : length rows.running ≡ count
   running_length = ap (λ r. length r.running) (sym is) ∙ row_length ns count root
 
@@ -64,12 +64,13 @@ row_same ns ms count id id' level e k h =
     map_range_same (number_at ms (level_of ms id') id') (number_at ns (level_of ns id) id)
     (λ slot. ap (λ l. number_at ms l id' slot) k ∙ h slot ∙ ap (λ l. number_at ns l id slot) (sym e)) 0 count
 
-pub rows_same : {a a' : List ℕ} {b b' : List (List ℕ)} {c c' : List (ℕ × ℕ)} → a ≡ a' → b ≡ b' → c ≡ c'
-    → (let x : Rows = record { running = a; declared = b; known = c } in x) ≡ record { running = a'; declared = b'; known = c' }
-rows_same {a} {a'} {b} {b'} {c} {c'} p q r =
-    ap (λ x. let y : Rows = record { running = x; declared = b; known = c } in y) p
-    ∙ ap (λ x. let y : Rows = record { running = a'; declared = x; known = c } in y) q
-    ∙ ap (λ x. let y : Rows = record { running = a'; declared = b'; known = x } in y) r
+pub rows_same : {a a' d d' : List ℕ} {b b' : List (List ℕ)} {c c' : List (ℕ × ℕ)} → a ≡ a' → b ≡ b' → d ≡ d' → c ≡ c'
+    → (let x : Rows = record { running = a; declared = b; kept = d; known = c } in x) ≡ record { running = a'; declared = b'; kept = d'; known = c' }
+rows_same {a} {a'} {d} {d'} {b} {b'} {c} {c'} p q t r =
+    ap (λ x. let y : Rows = record { running = x; declared = b; kept = d; known = c } in y) p
+    ∙ ap (λ x. let y : Rows = record { running = a'; declared = x; kept = d; known = c } in y) q
+    ∙ ap (λ x. let y : Rows = record { running = a'; declared = b'; kept = x; known = c } in y) t
+    ∙ ap (λ x. let y : Rows = record { running = a'; declared = b'; kept = d'; known = x } in y) r
 
 -- ---- what is known of shared nodes
 
@@ -115,14 +116,20 @@ known_same ns ms own t u s =
 
 -- ---- what the calls leave
 
-pub declared_same : (ns ms : List Node) (own root count : ℕ) (declared : List ℕ) → IsArena ns own root count declared → SharesSame ns ms own
+pub declared_same : (ns ms : List Node) (own root kept count : ℕ) (declared : List ℕ) → IsArena ns own root kept count declared → SharesSame ns ms own
     → map (row_of ms count) declared ≡ map (row_of ns count) declared
-declared_same ns ms own root count declared a s =
+declared_same ns ms own root kept count declared a s =
     map_same (row_of ms count) (row_of ns count) declared (λ i lt.
     let low = (a.rows i lt).0 in
     row_same ns ms count (get_or declared i 0) (get_or declared i 0) (level_of ns (get_or declared i 0)) refl (s.levels _ low) (λ slot. s.numbers _ slot low))
 
-module _ (ns ms : List Node) (own root count slot number now : ℕ) (declared : List ℕ) (a : IsArena ns own root count declared)
+pub kept_same : (ns ms : List Node) (own root kept count : ℕ) (declared : List ℕ) → IsArena ns own root kept count declared → SharesSame ns ms own
+    → row_of ms count kept ≡ row_of ns count kept
+kept_same ns ms own root kept count declared a s =
+    let low = a.keeps.0 in
+    row_same ns ms count kept kept (level_of ns kept) refl (s.levels kept low) (λ slot. s.numbers kept slot low)
+
+module _ (ns ms : List Node) (own root kept count slot number now : ℕ) (declared : List ℕ) (a : IsArena ns own root kept count declared)
     (u : IsTree ms own) (p : IsPut ns ms own root slot number now) (lt : slot < count) where
   put_running : row_of ms count now ≡ set (row_of ns count root) slot number
   put_running =
@@ -144,10 +151,10 @@ module _ (ns ms : List Node) (own root count slot number now : ℕ) (declared : 
             ∙ sym (get_or-set_other (row_of ns count root) slot k number 0 ne)
       ])
 
-  pub put_rows : rows_of ms now count declared ≡ record (rows_of ns root count declared) { running = set (row_of ns count root) slot number }
-  put_rows = rows_same put_running (declared_same ns ms own root count declared a p.shared) (known_same ns ms own a.tree u p.shared)
+  pub put_rows : rows_of ms now kept count declared ≡ record (rows_of ns root kept count declared) { running = set (row_of ns count root) slot number }
+  put_rows = rows_same put_running (declared_same ns ms own root kept count declared a p.shared) (kept_same ns ms own root kept count declared a p.shared) (known_same ns ms own a.tree u p.shared)
 
-  pub put_arena : IsArena ms own now count declared
+  pub put_arena : IsArena ms own now kept count declared
   put_arena = record {
     tree = u;
     base = a.base;
@@ -155,6 +162,7 @@ module _ (ns ms : List Node) (own root count slot number now : ℕ) (declared : 
     few = a.few;
     reach = subst (λ l. count ≤ width l) (sym p.alike) a.reach;
     rows = λ i less. let r = a.rows i less in (r.0, p.shared.levels _ r.0 ∙ r.1 ∙ sym p.alike);
+    keeps = (a.keeps.0, p.shared.levels kept a.keeps.0 ∙ a.keeps.1 ∙ sym p.alike);
     rest = λ k from to.
         let inside : k < width (level_of ns root) = subst (λ l. k < width l) p.alike to in
         ap (λ l. number_at ms l now k) p.alike
@@ -169,7 +177,7 @@ module _ (ns ms : List Node) (own root count slot number now : ℕ) (declared : 
         ∙ a.rests i k less from inside;
   }
 
-module _ (ns ms : List Node) (own root count : ℕ) (declared : List ℕ) (a : IsArena ns own root count declared)
+module _ (ns ms : List Node) (own root kept count : ℕ) (declared : List ℕ) (a : IsArena ns own root kept count declared)
     (u : IsTree ms own) (k : Keeps ns ms (level_of ns root)) where
   shared : SharesSame ns ms own
   shared = shares_kept ns ms own (level_of ns root) a.tree.within k
@@ -177,13 +185,14 @@ module _ (ns ms : List Node) (own root count : ℕ) (declared : List ℕ) (a : I
   level : level_of ms root ≡ level_of ns root
   level = k.levels root a.inside
 
-  pub kept_rows : rows_of ms root count declared ≡ rows_of ns root count declared
+  pub kept_rows : rows_of ms root kept count declared ≡ rows_of ns root kept count declared
   kept_rows = rows_same
       (row_same ns ms count root root (level_of ns root) refl level (λ slot. k.numbers root slot a.inside))
-      (declared_same ns ms own root count declared a shared)
+      (declared_same ns ms own root kept count declared a shared)
+      (kept_same ns ms own root kept count declared a shared)
       (known_same ns ms own a.tree u shared)
 
-  pub kept_arena : IsArena ms own root count declared
+  pub kept_arena : IsArena ms own root kept count declared
   kept_arena = record {
     tree = u;
     base = a.base;
@@ -191,6 +200,7 @@ module _ (ns ms : List Node) (own root count : ℕ) (declared : List ℕ) (a : I
     few = a.few;
     reach = subst (λ l. count ≤ width l) (sym level) a.reach;
     rows = λ i less. let r = a.rows i less in (r.0, shared.levels _ r.0 ∙ r.1 ∙ sym level);
+    keeps = (a.keeps.0, shared.levels kept a.keeps.0 ∙ a.keeps.1 ∙ sym level);
     rest = λ slot from to.
         ap (λ l. number_at ms l root slot) level ∙ k.numbers root slot a.inside ∙ a.rest slot from (subst (λ l. slot < width l) level to);
     rests = λ i slot less from to.
@@ -216,8 +226,8 @@ frozen ns own t =
       seen = λ i r it e. let s = t.seen i r it e in let less = s.1 in (it, omega (arith, less, within), s.2);
     }
 
-pub declared_arena : (ns : List Node) (own root count : ℕ) (declared : List ℕ) → IsArena ns own root count declared → IsArena ns (length ns) root count (declared ++ root ∷ [])
-declared_arena ns own root count declared a =
+pub declared_arena : (ns : List Node) (own root kept count : ℕ) (declared : List ℕ) → IsArena ns own root kept count declared → IsArena ns (length ns) root kept count (declared ++ root ∷ [])
+declared_arena ns own root kept count declared a =
     let within = a.tree.within in
     let long = length-append declared (root ∷ []) in
     let at : (i : ℕ) → i < length (declared ++ root ∷ []) → (get_or (declared ++ root ∷ []) i 0 ≡ root) ⊎ ((i < length declared) × (get_or (declared ++ root ∷ []) i 0 ≡ get_or declared i 0)) =
@@ -235,11 +245,28 @@ declared_arena ns own root count declared a =
         | inl e ↦ let inside = a.inside in (omega (arith, e, inside), ap (level_of ns) e)
         | inr e ↦ let r = a.rows i e.0 in let low = r.0 in let same = e.1 in (omega (arith, low, same, within), ap (level_of ns) e.1 ∙ r.1)
       ];
+      keeps = let low = a.keeps.0 in (omega (arith, low, within), a.keeps.1);
       rest = a.rest;
       rests = λ i slot lt from to. elim (at i lt) [
         | inl e ↦ ap (λ n. number_at ns (level_of ns root) n slot) e ∙ a.rest slot from to
         | inr e ↦ ap (λ n. number_at ns (level_of ns root) n slot) e.1 ∙ a.rests i slot e.0 from to
       ];
+    }
+
+-- the running row is kept
+pub keeping_arena : (ns : List Node) (own root kept count : ℕ) (declared : List ℕ) → IsArena ns own root kept count declared → IsArena ns (length ns) root root count declared
+keeping_arena ns own root kept count declared a =
+    let within = a.tree.within in
+    record {
+      tree = frozen ns own a.tree;
+      base = let base = a.base in omega (arith, base, within);
+      inside = a.inside;
+      few = a.few;
+      reach = a.reach;
+      rows = λ i lt. let r = a.rows i lt in let low = r.0 in (omega (arith, low, within), r.1);
+      keeps = (a.inside, refl);
+      rest = a.rest;
+      rests = a.rests;
     }
 
 -- ---- what is known, as pairs
@@ -293,43 +320,89 @@ contains_known ns a b (suc n) few h = elim (Contains-append_cases (known_pairs n
 
 -- ---- slots that are settled
 
-module _ (ns : List Node) (own root count : ℕ) (declared : List ℕ) (rows : Rows) (a : IsArena ns own root count declared)
-    (is : rows_of ns root count declared ≡ rows) (row id : ℕ) (lt : row < length rows.declared) (at : id ≡ get_or declared row 0) where
-  id_level : level_of ns id ≡ level_of ns root
+module _ (ns : List Node) (own root kept count : ℕ) (declared : List ℕ) (rows : Rows) (a : IsArena ns own root kept count declared)
+    (is : rows_of ns root kept count declared ≡ rows) (row id : ℕ) (lt : row < length rows.declared) (at : id ≡ get_or declared row 0) where
+  pub id_level : level_of ns id ≡ level_of ns root
   id_level =
-      let long = declared_length ns root count declared rows is in
+      let long = declared_length ns root kept count declared rows is in
       ap (level_of ns) at ∙ (a.rows row (omega (arith, long, lt))).1
 
-  wanted_slot : (slot : ℕ) → slot < length rows.running → get_or (declared_row rows row) slot 0 ≡ number_at ns (level_of ns root) id slot
+  pub wanted_slot : (slot : ℕ) → slot < length rows.running → get_or (declared_row rows row) slot 0 ≡ number_at ns (level_of ns root) id slot
   wanted_slot slot less =
-      declared_slot ns root count declared rows is row slot lt less
+      declared_slot ns root kept count declared rows is row slot lt less
       ∙ ap (λ n. number_at ns (level_of ns n) n slot) (sym at)
       ∙ ap (λ l. number_at ns l id slot) id_level
 
   pub settled : (slot : ℕ) → slot < length rows.running → IsSettledBelow ns (level_of ns root) root id slot → IsSettled rows row slot
   settled slot less (inl e) =
-      inl (ap (λ n. is_decided n (get_or (declared_row rows row) slot 0)) (running_slot ns root count declared rows is slot less)
+      inl (ap (λ n. is_decided n (get_or (declared_row rows row) slot 0)) (running_slot ns root kept count declared rows is slot less)
       ∙ ap (is_decided (number_at ns (level_of ns root) root slot)) (wanted_slot slot less) ∙ e)
   settled slot less (inr k) =
       let known = known_contains ns _ _ k in
       inr (subst (λ xs. Contains xs (get_or rows.running slot 0, get_or (declared_row rows row) slot 0)) (ap (λ r. r.known) is)
-      (subst (λ n. Contains (known_pairs ns (length ns)) (n, get_or (declared_row rows row) slot 0)) (sym (running_slot ns root count declared rows is slot less))
+      (subst (λ n. Contains (known_pairs ns (length ns)) (n, get_or (declared_row rows row) slot 0)) (sym (running_slot ns root kept count declared rows is slot less))
       (subst (λ n. Contains (known_pairs ns (length ns)) (number_at ns (level_of ns root) root slot, n)) (sym (wanted_slot slot less)) known)))
 
   pub first_undecided : (from : ℕ) (result : Option ℕ) → IsFirstUndecidedBelow ns (level_of ns root) root id from count result → IsFirstUndecided rows row from result
   first_undecided from None h =
-      let long = running_length ns root count declared rows is in
+      let long = running_length ns root kept count declared rows is in
       λ k ahead less. settled k less (h k ahead (omega (arith, less, long)))
   first_undecided from (Some slot) h =
-      let long = running_length ns root count declared rows is in
+      let long = running_length ns root kept count declared rows is in
       let less = h.1 in
       let inside : slot < length rows.running = omega (arith, less, long) in (
         h.0,
         inside,
-        ap (λ n. is_decided n (get_or (declared_row rows row) slot 0)) (running_slot ns root count declared rows is slot inside)
+        ap (λ n. is_decided n (get_or (declared_row rows row) slot 0)) (running_slot ns root kept count declared rows is slot inside)
             ∙ ap (is_decided (number_at ns (level_of ns root) root slot)) (wanted_slot slot inside) ∙ h.2,
         λ k ahead low. settled k (omega (arith, low, inside)) (h.3 k ahead low),
       )
+
+-- ---- rows that differ
+
+module _ (ns : List Node) (level id other count : ℕ) (a b : List ℕ) (long : length a ≡ count)
+    (left : (k : ℕ) → k < count → get_or a k 0 ≡ number_at ns level id k) (right : (k : ℕ) → k < count → get_or b k 0 ≡ number_at ns level other k) where
+  alike : (k : ℕ) → k < count → IsEqualBelow ns level id other k → get_or a k 0 ≡ get_or b k 0
+  alike k less e = left k less ∙ e ∙ sym (right k less)
+
+  pub first_unequal : (from : ℕ) (result : Option ℕ) → IsFirstUnequalBelow ns level id other from count result → IsFirstUnequal a b from result
+  first_unequal from None h = λ k ahead less. let low : k < count = omega (arith, less, long) in alike k low (h k ahead low)
+  first_unequal from (Some slot) h =
+      let less : slot < count = h.1 in (
+        h.0,
+        omega (arith, less, long),
+        λ e. h.2 (sym (left slot less) ∙ e ∙ right slot less),
+        λ k ahead low. alike k (omega (arith, low, less)) (h.3 k ahead low),
+      )
+
+module _ (ns : List Node) (own root kept count : ℕ) (declared : List ℕ) (rows : Rows) (a : IsArena ns own root kept count declared)
+    (is : rows_of ns root kept count declared ≡ rows) where
+  long : length rows.running ≡ count
+  long = running_length ns root kept count declared rows is
+
+  slot_of : (row id : ℕ) → row < length rows.declared → id ≡ get_or declared row 0
+      → (k : ℕ) → k < count → get_or (declared_row rows row) k 0 ≡ number_at ns (level_of ns root) id k
+  slot_of row id lt at k less = wanted_slot ns own root kept count declared rows a is row id lt at k (omega (arith, less, long))
+
+  row_long : (row : ℕ) → row < length rows.declared → length (declared_row rows row) ≡ count
+  row_long row lt = ap length (declared_is ns root kept count declared rows is row lt) ∙ row_length ns count (get_or declared row 0)
+
+  pub kept_long : length rows.kept ≡ count
+  kept_long = ap (λ r. length r.kept) (sym is) ∙ row_length ns count kept
+
+  pub first_changed : (from : ℕ) (result : Option ℕ) → IsFirstUnequalBelow ns (level_of ns root) root kept from count result → IsFirstUnequal rows.running rows.kept from result
+  first_changed =
+      first_unequal ns (level_of ns root) root kept count rows.running rows.kept long
+      (λ k less. running_slot ns root kept count declared rows is k (omega (arith, less, long)))
+      (λ k less. ap (λ r. get_or r.kept k 0) (sym is) ∙ row_slot ns count kept k less ∙ ap (λ l. number_at ns l kept k) a.keeps.1)
+
+  pub first_unequal_rows : (row id other beside : ℕ) → row < length rows.declared → id ≡ get_or declared row 0 → other < length rows.declared
+      → beside ≡ get_or declared other 0 → (result : Option ℕ) → IsFirstUnequalBelow ns (level_of ns id) id beside 0 count result
+      → IsFirstUnequal (declared_row rows row) (declared_row rows other) 0 result
+  first_unequal_rows row id other beside lt at inside there result h =
+      first_unequal ns (level_of ns root) id beside count (declared_row rows row) (declared_row rows other) (row_long row lt)
+      (slot_of row id lt at) (slot_of other beside inside there) 0 result
+      (subst (λ l. IsFirstUnequalBelow ns l id beside 0 count result) (id_level ns own root kept count declared rows a is row id lt at) h)
 
 -- ---- what is said to fit
 
@@ -339,7 +412,7 @@ decided_top x = or_right (nat_eq x 0) true refl
 pub decided_same : (x : ℕ) → is_decided x x ≡ true
 decided_same x = ap (λ b. b || nat_eq x 0) (eq-eqb x x refl)
 
-module _ (ns ms : List Node) (own root id count : ℕ) (declared : List ℕ) (a : IsArena ns own root count declared)
+module _ (ns ms : List Node) (own root id kept count : ℕ) (declared : List ℕ) (a : IsArena ns own root kept count declared)
     (n : NotesOnly ns ms (level_of ns root) root id) where
   noted_level : level_of ms root ≡ level_of ns root
   noted_level = n.levels root
@@ -377,7 +450,7 @@ module _ (ns ms : List Node) (own root id count : ℕ) (declared : List ℕ) (a 
             ];
       }
 
-  pub noted_arena : IsArena ms (length ns) root count declared
+  pub noted_arena : IsArena ms (length ns) root kept count declared
   noted_arena =
       let within = a.tree.within in
       let long = n.long in
@@ -388,6 +461,7 @@ module _ (ns ms : List Node) (own root id count : ℕ) (declared : List ℕ) (a 
         few = a.few;
         reach = subst (λ l. count ≤ width l) (sym noted_level) a.reach;
         rows = λ i lt. let r = a.rows i lt in let low = r.0 in (omega (arith, low, within), n.levels _ ∙ r.1 ∙ sym noted_level);
+        keeps = let low = a.keeps.0 in (omega (arith, low, within), n.levels kept ∙ a.keeps.1 ∙ sym noted_level);
         rest = λ slot from to.
             ap (λ l. number_at ms l root slot) noted_level ∙ same_numbers root slot a.inside ∙ a.rest slot from (subst (λ l. slot < width l) noted_level to);
         rests = λ i slot lt from to.
@@ -408,6 +482,12 @@ module _ (ns ms : List Node) (own root id count : ℕ) (declared : List ℕ) (a 
       map_same (row_of ms count) (row_of ns count) declared (λ i lt.
       let low = (a.rows i lt).0 in
       row_same ns ms count (get_or declared i 0) (get_or declared i 0) (level_of ns (get_or declared i 0)) refl (n.levels _) (λ slot. same_numbers _ slot (omega (arith, low, within))))
+
+  pub noted_kept : row_of ms count kept ≡ row_of ns count kept
+  noted_kept =
+      let within = a.tree.within in
+      let low = a.keeps.0 in
+      row_same ns ms count kept kept (level_of ns kept) refl (n.levels kept) (λ slot. same_numbers kept slot (omega (arith, low, within)))
 
   module _ (row : ℕ) (lt : row < length declared) (at : id ≡ get_or declared row 0) where
     -- a pair that is known afterwards was known, or is decided, or stands in the two rows
@@ -447,16 +527,16 @@ module _ (ns ms : List Node) (own root id count : ℕ) (declared : List ℕ) (a 
               ]
         ]
 
-    pub noted_said : (rows : Rows) → rows_of ns root count declared ≡ rows → (id ≡ root) ⊎ ((node_at ms id).seen ≡ Some root) → IsSaidToFit rows (rows_of ms root count declared) row
+    pub noted_said : (rows : Rows) → rows_of ns root kept count declared ≡ rows → (id ≡ root) ⊎ ((node_at ms id).seen ≡ Some root) → IsSaidToFit rows (rows_of ms root kept count declared) row
     noted_said rows is done =
-        let new : Rows = rows_of ms root count declared in
+        let new : Rows = rows_of ms root kept count declared in
         let within = a.tree.within in
         let long = n.long in
         let told = a.rows row lt in
         let low = told.0 in
         let inside : id < length ms = omega (arith, at, low, within, long) in
         let alike : level_of ms id ≡ level_of ms root = n.levels id ∙ ap (level_of ns) at ∙ told.1 ∙ sym noted_level in
-        let few = declared_length ms root count declared new refl in
+        let few = declared_length ms root kept count declared new refl in
         let each : (k : ℕ) → IsSettledBelow ms (level_of ms root) root id k =
         λ k. elim done [
           | inl e ↦ inl (ap (λ i. is_decided (number_at ms (level_of ms root) root k) (number_at ms (level_of ms root) i k)) e ∙ decided_same (number_at ms (level_of ms root) root k))
@@ -472,12 +552,13 @@ module _ (ns ms : List Node) (own root id count : ℕ) (declared : List ℕ) (a 
         ] in
         let running : row_of ms count root ≡ rows.running = noted_running ∙ ap (λ r. r.running) is in
         let wanted : row_of ns count id ≡ declared_row rows row =
-        ap (row_of ns count) at ∙ sym (declared_is ns root count declared rows is row (let e = declared_length ns root count declared rows is in omega (arith, e, lt))) in
+        ap (row_of ns count) at ∙ sym (declared_is ns root kept count declared rows is row (let e = declared_length ns root kept count declared rows is in omega (arith, e, lt))) in
         record {
           running = running;
           declared = noted_declared ∙ ap (λ r. r.declared) is;
+          kept = noted_kept ∙ ap (λ r. r.kept) is;
           settled = λ k less.
-              settled ms (length ns) root count declared new noted_arena refl row id (omega (arith, few, lt)) at k
+              settled ms (length ns) root kept count declared new noted_arena refl row id (omega (arith, few, lt)) at k
               (let e = ap length running in omega (arith, e, less)) (each k);
           only = λ x y h.
               elim (noted_only x y (contains_known ms x y (length ms) (omega arith) h)) [
@@ -534,7 +615,7 @@ module _ (ns : List Node) (top count : ℕ) (low : top < 4) (few : count < 2 ^ 1
             absurd (let z = none in cc);
       }
 
-  pub empty_arena : IsArena ns 4 top count []
+  pub empty_arena : IsArena ns 4 top top count []
   empty_arena =
       let long = e.long in
       let level = top_level top low in
@@ -545,6 +626,7 @@ module _ (ns : List Node) (top count : ℕ) (low : top < 4) (few : count < 2 ^ 1
         few = few;
         reach = subst (λ l. count ≤ width l) (sym level) wide;
         rows = λ i lt. absurd (omega (arith, lt));
+        keeps = (low, refl);
         rest = λ slot from to. ap (λ l. number_at ns l top slot) level ∙ nothing top slot low;
         rests = λ i slot lt from to. absurd (omega (arith, lt));
       }
@@ -555,13 +637,14 @@ module _ (ns : List Node) (top count : ℕ) (low : top < 4) (few : count < 2 ^ 1
       ap (λ xs. xs ++ pairs_of ns n (node_at ns n).seen) (none_known n (omega (arith, le)))
       ∙ ap (pairs_of ns n) (none_seen n (omega (arith, le)))
 
-  pub empty_rows : rows_of ns top count [] ≡ record { running = replicate count 0; declared = []; known = [] }
-  empty_rows = rows_same
-      (ext_get_or 0 _ _ (row_length ns count top ∙ sym (length-replicate count 0)) (λ k less.
+  tops : row_of ns count top ≡ replicate count 0
+  tops =
+      ext_get_or 0 _ _ (row_length ns count top ∙ sym (length-replicate count 0)) (λ k less.
       let lt : k < count = let l = row_length ns count top in omega (arith, l, less) in
       row_slot ns count top k lt
       ∙ ap (λ l. number_at ns l top k) (top_level top low)
       ∙ nothing top k low
-      ∙ sym (get_or-replicate count k 0 0 lt)))
-      refl
-      (none_known (length ns) (let long = e.long in omega (arith, long)))
+      ∙ sym (get_or-replicate count k 0 0 lt))
+
+  pub empty_rows : rows_of ns top top count [] ≡ record { running = replicate count 0; declared = []; kept = replicate count 0; known = [] }
+  empty_rows = rows_same tops refl tops (none_known (length ns) (let long = e.long in omega (arith, long)))

@@ -1,11 +1,13 @@
 -- The rows of a method: one number for each local variable, which stands for its verification type (JVMS 4.10.1.2).
-use Rattle.std.specs.Prelude.{◌≡◌, ℕ, ◌≤◌, ◌<◌, Bool, true, false, nat_eq, ◌||◌, ◌⊎◌, List, [], length, slice_index, slice_index_or, Option, Some, None, Contains}
+use Rattle.std.specs.Prelude.{◌≡◌, ◌≢◌, ℕ, ◌≤◌, ◌<◌, Bool, true, false, nat_eq, ◌||◌, ◌⊎◌, List, [], length, slice_index, slice_index_or, Option, Some, None, Contains}
 
 pub record Rows : Type 0 where
   -- the row of the running frame
   pub running : List ℕ
   -- the rows of the declared frames, in the order in which they were declared
   pub declared : List (List ℕ)
+  -- what the running row held when it was kept last, at first Top throughout
+  pub kept : List ℕ
   -- pairs of numbers of which the first was said to fit the second
   pub known : List (ℕ × ℕ)
 
@@ -30,6 +32,12 @@ IsFirstUndecided rows row from (Some slot) = (from ≤ slot) × (slot < length r
     × (is_decided (slice_index rows.running slot) (slice_index (declared_row rows row) slot) ≡ false)
     × ((k : ℕ) → from ≤ k → k < slot → IsSettled rows row k)
 
+-- the first place from one on at which two rows differ
+abbrev pub IsFirstUnequal : List ℕ → List ℕ → ℕ → Option ℕ → Type 0
+IsFirstUnequal a b from None = (k : ℕ) → from ≤ k → k < length a → slice_index a k ≡ slice_index b k
+IsFirstUnequal a b from (Some slot) = (from ≤ slot) × (slot < length a) × (slice_index a slot ≢ slice_index b slot)
+    × ((k : ℕ) → from ≤ k → k < slot → slice_index a k ≡ slice_index b k)
+
 -- the two numbers of a slot
 pub record StandsAt (row wanted : List ℕ) (a b : ℕ) : Type 0 where
   pub slot : ℕ
@@ -41,6 +49,7 @@ pub record StandsAt (row wanted : List ℕ) (a b : ℕ) : Type 0 where
 pub record IsSaidToFit (old new : Rows) (row : ℕ) : Type 0 where
   pub running : new.running ≡ old.running
   pub declared : new.declared ≡ old.declared
+  pub kept : new.kept ≡ old.kept
   pub settled : (k : ℕ) → k < length old.running → IsSettled new row k
   pub only : (a b : ℕ) → Contains new.known (a, b)
       → Contains old.known (a, b) ⊎ (is_decided a b ≡ true) ⊎ StandsAt old.running (declared_row old row) a b

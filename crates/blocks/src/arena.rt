@@ -1,10 +1,10 @@
 //! The rows of a method.
 ghost use Rattle.std.specs.Prelude.{◌≡◌, ◌<◌, ◌≤◌, ◌^◌, ◌++◌, ◌∷◌, [], length, replicate, slice_index, slice_index_or, slice_set, IfOk, OnOk, OnErr};
-ghost use Rattle.blocks.specs.Rows.{declared_row, IsFirstUndecided, IsSaidToFit};
+ghost use Rattle.blocks.specs.Rows.{declared_row, IsFirstUndecided, IsFirstUnequal, IsSaidToFit};
 ghost use Rattle.blocks.specs.private.Trees.{width};
 ghost use Rattle.blocks.specs.private.Arenas.{empty_node, AreEmpty};
 
-use crate::comparison::first_undecided_below;
+use crate::comparison::{first_undecided_below, first_unequal_below};
 use crate::fitting::note;
 use crate::node::{LEVELS, Node};
 use crate::tree::{number, put};
@@ -27,7 +27,8 @@ impl Model for Row {
     ghost inverse = { λ n. record { place = n } };
 }
 
-/// The rows of a method: that of the running frame, and those of the declared frames.
+/// The rows of a method: that of the running frame, those of the declared frames, and one that is kept to tell what
+/// changed since.
 ///
 /// A slot holds the number of a type, at first 0, which is Top. Where memory runs out, a call leaves all rows as they
 /// were.
@@ -37,6 +38,8 @@ pub struct Arena {
     /// Nodes from here on belong to the running row alone.
     own: u32,
     root: u32,
+    /// The root of the row that is kept.
+    kept: u32,
     count: usize,
     declared: Vec<u32>,
 }
@@ -48,9 +51,9 @@ impl Model for Arena {
 
     ghost use Rattle.blocks.specs.private.Arenas.{rows_of, IsArena};
 
-    ghost view = { λ a. rows_of a.nodes.items a.root a.count a.declared.items };
+    ghost view = { λ a. rows_of a.nodes.items a.root a.kept a.count a.declared.items };
 
-    ghost invariant = { λ a. IsArena a.nodes.items a.own a.root a.count a.declared.items };
+    ghost invariant = { λ a. IsArena a.nodes.items a.own a.root a.kept a.count a.declared.items };
 }
 
 /// The lowest level of a node that is above as many slots as a method has.
@@ -110,12 +113,19 @@ fn root_of(declared: &[u32], row: Row) -> u32
 impl Arena {
     /// The rows of a method with so many local variables: the running one, which holds Top throughout.
     pub fn new(alloc: Global, count: u16) -> Result<Arena, AllocError>
-        ensures { IfOk result (λ arena. arena ≡ record { running = replicate count 0; declared = []; known = [] }) }
+        ensures { IfOk result (λ arena. arena ≡ record {
+          running = replicate count 0;
+          declared = [];
+          kept = replicate count 0;
+          known = [];
+        }) }
     {
+        let top = top_of(count);
         Ok(Arena {
             nodes: empty_nodes(alloc)?,
             own: LEVELS,
-            root: top_of(count),
+            root: top,
+            kept: top,
             count: count as usize,
             declared: Vec::new(alloc),
         })
@@ -123,13 +133,19 @@ impl Arena {
 
     /// Begins anew, for another method: keeps the memory, and takes none.
     pub fn restart(&mut self, count: u16)
-        ensures { self.new ≡ record { running = replicate count 0; declared = []; known = [] } }
+        ensures { self.new ≡ record {
+          running = replicate count 0;
+          declared = [];
+          kept = replicate count 0;
+          known = [];
+        } }
     {
         let top = top_of(count);
         clear(&mut self.nodes);
         self.declared.clear();
         self.own = LEVELS;
         self.root = top;
+        self.kept = top;
         self.count = count as usize;
     }
 
@@ -202,6 +218,36 @@ impl Arena {
     {
         let wanted = root_of(&self.declared, row);
         first_undecided_below(&self.nodes, self.root, wanted, from, self.count)
+    }
+
+    /// Keeps the running row as it is, in place of what was kept before. Takes no memory, but the running row shares all
+    /// of its blocks afterwards.
+    pub fn keep(&mut self)
+        ensures { self.new ≡ record self.old { kept = self.old.running } }
+    {
+        self.own = self.nodes.len() as u32;
+        self.kept = self.root;
+    }
+
+    /// The first slot from one on at which the running row differs from what was kept. Takes no time where nothing
+    /// changed.
+    pub fn first_changed(&self, from: usize) -> Option<usize>
+        ensures first { IsFirstUnequal self.now.running self.now.kept from result }
+        ensures even { length self.now.kept ≡ length self.now.running }
+        ensures few { length self.now.running < 2 ^ 16 }
+    {
+        first_unequal_below(&self.nodes, self.root, self.kept, from, self.count)
+    }
+
+    /// The first slot at which two declared rows differ.
+    pub fn first_unequal(&self, row: Row, other: Row) -> Option<usize>
+        requires row { row < length self.now.declared }
+        requires other { other < length self.now.declared }
+        ensures { IsFirstUnequal (declared_row self.now row) (declared_row self.now other) 0 result }
+    {
+        let root = root_of(&self.declared, row);
+        let beside = root_of(&self.declared, other);
+        first_unequal_below(&self.nodes, root, beside, 0, self.count)
     }
 
     /// Notes that the running row fits a declared one, so that the two are not compared again until the running row

@@ -1,7 +1,7 @@
 //! Blocks of 16 numbers, compared by lanes.
 ghost use Rattle.std.specs.Prelude.{◌≡◌, ◌≤◌, ◌<◌, ◌+◌, ◌*◌, ◌/◌, ◌%◌, ◌^◌, ◌↔◌, length, IsTrue};
 ghost use Rattle.blocks.specs.Rows.{is_decided};
-ghost use Rattle.blocks.specs.private.Blocks.{place_in, AreDecidedLanes, IsFirstLane};
+ghost use Rattle.blocks.specs.private.Blocks.{place_in, AreDecidedLanes, IsFirstLane, IsFirstUnequalLane};
 
 use std::simd::prelude::*;
 
@@ -44,6 +44,18 @@ pub(crate) fn first_lane(numbers: &[u32; 16], wanted: &[u32; 16], from: usize) -
     }
     let mut lane = from;
     while lane < 16 && is_decided(numbers[lane], wanted[lane]) {
+        lane += 1;
+    }
+    lane
+}
+
+/// The first lane from one on in which the numbers differ, or 16.
+pub(crate) fn first_unequal_lane(numbers: &[u32; 16], others: &[u32; 16], from: usize) -> usize
+    requires { from < 16 }
+    ensures { IsFirstUnequalLane numbers.now others.now from result }
+{
+    let mut lane = from;
+    while lane < 16 && numbers[lane] == others[lane] {
         lane += 1;
     }
     lane

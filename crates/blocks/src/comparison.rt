@@ -1,8 +1,8 @@
-//! Two trees compared slot by slot, as far as numbers and what was said before decide.
+//! Two trees compared slot by slot: as far as numbers and what was said before decide, or by numbers alone.
 ghost use Rattle.std.specs.Prelude.{◌≡◌, ◌≤◌, ◌<◌, ◌+◌, ◌*◌, ◌/◌, ◌^◌, ◌↔◌, length, IsTrue, Some};
-ghost use Rattle.blocks.specs.private.Trees.{IsForest, IsSettledUpTo, IsFirstUndecidedBelow, level_of, width};
+ghost use Rattle.blocks.specs.private.Trees.{IsForest, IsSettledUpTo, IsFirstUndecidedBelow, IsEqualUpTo, IsFirstUnequalBelow, level_of, width};
 
-use crate::block::{first_lane, place_in};
+use crate::block::{first_lane, first_unequal_lane, place_in};
 use crate::node::Node;
 
 /// The slot behind the node of a level in which a slot stands.
@@ -64,6 +64,53 @@ pub(crate) fn first_undecided_below(
     let mut at = from;
     while at < to {
         let end = settled_end(nodes, id, wanted, at);
+        if end == at {
+            return Some(at);
+        }
+        at = end;
+    }
+    None
+}
+
+/// How far the slots from one on hold equal numbers below two nodes; at most to the end of a node.
+fn equal_end(nodes: &[Node], id: u32, other: u32, slot: usize) -> usize
+    requires forest { IsForest nodes.now }
+    requires node { id < length nodes.now }
+    requires other { other < length nodes.now }
+    requires level { level_of nodes.now other ≡ level_of nodes.now id }
+    requires slot { slot < 2 ^ 32 }
+    ensures { IsEqualUpTo nodes.now (level_of nodes.now id) id other slot result }
+{
+    let node = &nodes[id as usize];
+    if id == other {
+        return end_of(slot, node.level);
+    }
+    let beside = &nodes[other as usize];
+    if node.level == 0 {
+        return slot / 16 * 16 + first_unequal_lane(&node.numbers, &beside.numbers, slot % 16);
+    }
+    let place = place_in(slot, node.level);
+    equal_end(nodes, node.numbers[place], beside.numbers[place], slot)
+}
+
+/// The first slot from one up to an end at which the numbers below two nodes differ.
+pub(crate) fn first_unequal_below(
+    nodes: &[Node],
+    id: u32,
+    other: u32,
+    from: usize,
+    to: usize,
+) -> Option<usize>
+    requires forest { IsForest nodes.now }
+    requires node { id < length nodes.now }
+    requires other { other < length nodes.now }
+    requires level { level_of nodes.now other ≡ level_of nodes.now id }
+    requires few { to < 2 ^ 32 }
+    ensures { IsFirstUnequalBelow nodes.now (level_of nodes.now id) id other from to result }
+{
+    let mut at = from;
+    while at < to {
+        let end = equal_end(nodes, id, other, at);
         if end == at {
             return Some(at);
         }

@@ -1,4 +1,4 @@
-//! What all attributes have (JVMS 4.7): a name, and a body behind its length.
+//! The head of an attribute (JVMS 4.7): its name, and the length of its body.
 ghost use Rattle.std.specs.Prelude.{◌≡◌};
 ghost use Rattle.layout.specs.Faults.{GoesOn};
 ghost use Rattle.classfile.specs.ClassFile.{attribute_info};

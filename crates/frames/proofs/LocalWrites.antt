@@ -1,5 +1,5 @@
 -- Locals that are given the types of a chain, from its top down.
-use Rattle.std.proofs.Common.{◌≡◌, ◌≢◌, ◌∙◌, ℕ, zero, suc, ◌+◌, ◌-◌, ◌<◌, ◌≤◌, Bool, true, false, cond, if◌then◌else◌, List, [], ◌∷◌, ◌++◌, length, get_or, reverse, replicate, Some, refl, sym, ap, subst, arith}
+use Rattle.std.proofs.Common.{◌≡◌, ◌≢◌, ◌∙◌, ℕ, ◌+◌, ◌-◌, ◌<◌, ◌≤◌, Bool, true, false, cond, if◌then◌else◌, List, [], ◌∷◌, ◌++◌, length, get_or, reverse, Some, refl, sym, ap, subst, arith}
 use Rattle.std.specs.Prelude.{◌&&◌, nat_eq, nat_lt}
 use Rattle.std.proofs.lemmas.Bool.Decides.{nat_tests}
 use Rattle.std.proofs.lemmas.List.{reverse-append, get_or_append_left, get_or-append-add, get_or_past}
@@ -18,6 +18,7 @@ use Rattle.frames.proofs.TypeChains.{types_step}
 use Rattle.frames.proofs.Sharing.{types_on}
 use Rattle.frames.proofs.Walks.{in_append, in_top, units_in, width_is}
 use Rattle.frames.proofs.Finding.{locals_filled}
+use Rattle.frames.proofs.Comparison.{get_padded}
 use Rattle.frames.proofs.LocalTypes.{held_length, held_is, held_are}
 
 -- ---- by units
@@ -167,16 +168,9 @@ module _ (links : List Link) (k : AreLinked links) (high : ℕ) (old : ℕ → V
 
 -- ---- locals that were those of another frame
 
-padded_at : (xs : List VerificationType) (k i : ℕ) → get_or (xs ++ replicate k top) i top ≡ get_or xs i top
-padded_at [] zero i = refl
-padded_at [] (suc k) zero = refl
-padded_at [] (suc k) (suc i) = padded_at [] k i
-padded_at (x ∷ xs) k zero = refl
-padded_at (x ∷ xs) k (suc i) = padded_at xs k i
-
 pub fact_local : (links : List Link) (n : ℕ) (f : FrameTops) (i : ℕ) → get_or (fact_of links n f).locals i top ≡ local_in (types_at links f.locals) i
 unfolding fact_of locals_at
-fact_local links n f i = let ts = in_locals (reverse (types_at links f.locals)) in padded_at ts (n - length ts) i
+fact_local links n f i = let ts = in_locals (reverse (types_at links f.locals)) in get_padded ts (n - length ts) i
 
 pub of_chain : (x : Locals) (links : List Link) (n : ℕ) (f : FrameTops) → IsInside links n f → AreOfChain links f.locals (length (fact_of links n f).locals) (local x)
     → locals_in x (length (fact_of links n f).locals) ≡ (fact_of links n f).locals

@@ -2,7 +2,7 @@
 ghost use Rattle.std.specs.Prelude.{◌≡◌};
 
 use crate::fault::CodeFault;
-use crate::instruction::Insn;
+use crate::instruction::{Insn, Operands};
 use crate::meaning::{act, act_alone, made_index};
 use crate::operation::Act;
 use crate::reading::{read_insn, take_alone};
@@ -32,9 +32,9 @@ impl<'a> Model for Instructions<'a> {
 
 impl<'a> Instructions<'a> {
     ghost use Rattle.std.specs.Prelude.{Some, Ok, length, nat_eq};
-    ghost use Rattle.insn.specs.Code.{StepsBy, HasInstruction};
+    ghost use Rattle.insn.specs.Code.{StepsBy, StepsThrough, HasInstruction};
     ghost use Rattle.insn.specs.Offsets.{by_act, by_made};
-    ghost use Rattle.insn.specs.Views.{act_located};
+    ghost use Rattle.insn.specs.Views.{act_located, located};
 
     /// The instructions of this code, from its first byte on.
     pub fn new(code: &'a [u8]) -> Self
@@ -95,11 +95,29 @@ impl<'a> Instructions<'a> {
         }
     }
 
+    /// Goes on as `next` does, which takes an instruction without operands itself.
+    #[inline(never)]
+    fn next_with_operands(&mut self) -> Option<Result<(usize, Insn<'a>), CodeFault>>
+        ensures { StepsThrough located self.old result self.new }
+    {
+        if self.cursor.rest().is_empty() {
+            return None;
+        }
+        let at = self.cursor.at();
+        match read_insn(&mut self.cursor) {
+            Ok(insn) => Some(Ok((at, insn))),
+            Err(fault) => {
+                self.cursor = Cursor::new(&[]);
+                Some(Err(fault))
+            }
+        }
+    }
+
     #[inline(never)]
     fn start_with_operands(&mut self) -> Option<Result<(usize, Option<u16>), CodeFault>>
         ensures { StepsBy (λ x. x) by_made self.old result self.new }
     {
-        match self.next()? {
+        match self.next_with_operands()? {
             Ok((at, insn)) => Some(Ok((at, made_index(&insn)))),
             Err(fault) => Some(Err(fault)),
         }
@@ -119,16 +137,13 @@ impl<'a> Iterator for Instructions<'a> {
     ghost remaining = { λ s. at_most (length s.rest) };
 
     fn next(&mut self) -> Option<Result<(usize, Insn<'a>), CodeFault>> {
-        if self.cursor.rest().is_empty() {
-            return None;
-        }
         let at = self.cursor.at();
-        match read_insn(&mut self.cursor) {
-            Ok(insn) => Some(Ok((at, insn))),
-            Err(fault) => {
-                self.cursor = Cursor::new(&[]);
-                Some(Err(fault))
+        match take_alone(&mut self.cursor) {
+            Some(opcode) => {
+                let operands = Operands::Nothing;
+                Some(Ok((at, Insn { opcode, operands })))
             }
+            None => self.next_with_operands(),
         }
     }
 }

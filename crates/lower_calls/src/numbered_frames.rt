@@ -324,6 +324,20 @@ fn is_caught<C: Classes>(alloc: Global, classes: &C) -> Result<bool, AllocError>
     Ok(caught && others && takes && !frames.takes(0, 1, n.int) && frames.takes(0, 0, n.int))
 }
 
+/// Whether it is told which local variable changed since they were kept, and that a frame has the locals that it has.
+fn changes_are_told<C: Classes>(alloc: Global, classes: &C) -> Result<bool, AllocError> {
+    let mut types = TypeNumbers::new(alloc, classes, hasher());
+    let n = given_numbers(&mut types, (VType::Uninit(9), A))?;
+    let mut frames = declared_at_7(alloc, &types, n)?;
+    let alike = frames.first_unequal(0, 0).is_none() && frames.count() == 1;
+    let before = frames.first_changed(0);
+    frames.keep_locals();
+    let kept = frames.first_changed(0);
+    frames.forget(9)?;
+    let changed = [frames.first_changed(0), frames.first_changed(19)];
+    Ok(alike && before == Some(18) && kept.is_none() && changed == [Some(18), None])
+}
+
 /// Whether frames begin anew for another method.
 fn begins_anew<C: Classes>(alloc: Global, classes: &C) -> Result<bool, AllocError> {
     let mut types = TypeNumbers::new(alloc, classes, hasher());
@@ -340,7 +354,8 @@ fn all_hold<C: Classes>(alloc: Global, classes: &C) -> Result<bool, AllocError> 
     let frames = is_taken(alloc, classes)? && flags_count(alloc, classes)?;
     let items = are_popped(alloc, classes)? && is_moved(alloc, classes)?;
     let others = is_caught(alloc, classes)? && begins_anew(alloc, classes)?;
-    Ok(frames && items && others && is_forgotten(alloc, classes)?)
+    let changes = changes_are_told(alloc, classes)?;
+    Ok(frames && items && others && changes && is_forgotten(alloc, classes)?)
 }
 
 /// Whether all that is said of frames by numbers holds; or memory ran out, where it may.

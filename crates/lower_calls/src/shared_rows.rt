@@ -130,20 +130,41 @@ fn what_was_said_is_kept(alloc: Global) -> Result<bool, AllocError> {
     Ok(short && long && is_noted(alloc, 5000, 4100)?)
 }
 
+/// Whether it is told where the running row changed since it was kept, and where two declared rows differ.
+fn changes_are_told(alloc: Global, count: u16, place: usize) -> Result<bool, AllocError> {
+    let mut arena = filled(alloc, count, 6)?;
+    let before = arena.first_changed(0);
+    arena.keep();
+    let row = arena.declare()?;
+    let kept = arena.first_changed(0);
+    put(&mut arena, place, 7)?;
+    let other = arena.declare()?;
+    let changed = [arena.first_changed(0), arena.first_changed(arena.slots())];
+    let unequal = [
+        arena.first_unequal(row, other),
+        arena.first_unequal(row, row),
+    ];
+    let told = changed == [Some(place), None] && unequal == [Some(place), None];
+    arena.take(row);
+    Ok(before == Some(0) && kept.is_none() && told && arena.first_changed(0).is_none())
+}
+
 /// Whether an arena begins anew.
 fn begins_anew(alloc: Global) -> Result<bool, AllocError> {
     let mut arena = filled(alloc, 300, 5)?;
     arena.declare()?;
     arena.restart(17);
+    let unchanged = arena.first_changed(0).is_none();
     put(&mut arena, 16, 2)?;
     let row = arena.declare()?;
     let are_few = arena.slots() == 17 && running(&arena, 0) == Some(0);
-    Ok(are_few && declared(&arena, row, 16) == Some(2))
+    Ok(unchanged && are_few && declared(&arena, row, 16) == Some(2))
 }
 
 fn all_hold(alloc: Global) -> Result<bool, AllocError> {
     let rows = are_kept(alloc)? && top_is_wanted(alloc)?;
-    Ok(rows && what_was_said_is_kept(alloc)? && begins_anew(alloc)?)
+    let changes = changes_are_told(alloc, 17, 16)? && changes_are_told(alloc, 5000, 4100)?;
+    Ok(rows && changes && what_was_said_is_kept(alloc)? && begins_anew(alloc)?)
 }
 
 #[test]

@@ -37,7 +37,7 @@ tops_listed x count place lt o =
     let long = length-replicate count zero_number in
     absurd (true≢false (sym o ∙ ap is_object (get_or-replicate count place 0 0 (omega (arith, long, lt)))))
 
-pub tops_held : (s : Numbering) (count : ℕ) (x : Holders) → AreHeld s (record { running = replicate count 0; declared = []; known = [] }) x
+pub tops_held : (s : Numbering) (count : ℕ) (x : Holders) → AreHeld s (record { running = replicate count 0; declared = []; kept = replicate count 0; known = [] }) x
 tops_held s count x = record { known = tops_known s count; running = tops_listed x count; declared = λ row lt. absurd (omega (arith, lt)) }
 
 pub put_held : {E : Type 0} (s : Numbering) (old new : Rows) (place n : ℕ) (r : Result Unit E) (x y : Holders) → AreHeld s old x → KeepsListed x y → (is_object n ≡ true → IsListed y n place) → IsGiven s n
@@ -49,6 +49,14 @@ put_held s old new place n (Err e) x y h kept listed given ok err = subst (λ ro
 
 pub taken_held : (s : Numbering) (rows : Rows) (row : ℕ) (x : Holders) → row < length rows.declared → AreHeld s rows x → AreHeld s (record rows { running = declared_row rows row }) x
 taken_held s rows row x lt h = record { known = taken_known s rows row lt h.known; running = h.declared row lt; declared = h.declared }
+
+-- the running row is kept
+pub keeping_held : (s : Numbering) (old new : Rows) (x : Holders) → new ≡ record old { kept = old.running } → AreHeld s old x → AreHeld s new x
+keeping_held s old new x e h = subst (λ rows. AreHeld s rows x) (sym e) (record {
+  known = record { running = h.known.running; declared = h.known.declared; even = h.known.even; known = h.known.known };
+  running = h.running;
+  declared = h.declared;
+})
 
 pub declared_held : {R E : Type 0} (s : Numbering) (old new : Rows) (r : Result R E) (x : Holders) → AreHeld s old x
     → OnOk r (new ≡ record old { declared = old.declared ++ old.running ∷ [] }) → OnErr r (new ≡ old) → AreHeld s new x
@@ -109,14 +117,6 @@ listed_pop x row n all k lt o =
     let same = get_or_append_left row (n ∷ []) 0 k lt in
     let long = length-append row (n ∷ []) in
     subst (λ m. IsListed x m k) same (all k (omega (arith, lt, long)) (ap is_object same ∙ o))
-
--- the items below a place are as they were, and those from it up are listed
-pub listed_parts : (x y : Holders) (old new : List ℕ) (from : ℕ) → KeepsListed x y → AreListed x old → from ≤ length old → take from new ≡ take from old → AreListedFrom from y new → AreListed y new
-listed_parts x y old new from kept all within same above k lt o = elim (cases_lt k from) [
-  | inl less ↦ (let e : get_or new k 0 ≡ get_or old k 0 = sym (get_or-take from new k 0 less) ∙ ap (λ r. get_or r k 0) same ∙ get_or-take from old k 0 less in
-      subst (λ m. IsListed y m k) (sym e) (kept (get_or old k 0) k (all k (omega (arith, less, within)) (sym (ap is_object e) ∙ o))))
-  | inr le ↦ above k le lt o
-]
 
 pub listed_map : (x : Holders) (row : List ℕ) (object by : ℕ) → is_object by ≡ false → AreListed x row → AreListed x (map (replaced object by) row)
 listed_map x row object by none all k lt o =

@@ -10,7 +10,7 @@ use Rattle.method_frames.specs.private.Known.{AreGiven, AreKnown}
 use Rattle.method_frames.proofs.Given.{tops_given, set_given}
 
 abbrev pub view_of : Numbering → Rows → NumberedRows
-view_of s rows = record { types = s; running = rows.running; declared = rows.declared }
+view_of s rows = record { types = s; running = rows.running; declared = rows.declared; kept = rows.kept }
 
 module _ (s : Numbering) (rows : Rows) (x : NumberedRows) (is : view_of s rows ≡ x) (known : AreKnown s rows) where
   pub running_given : (place n : ℕ) → place < length x.running → n ≡ get_or rows.running place 0 → IsGiven s n
@@ -30,7 +30,7 @@ module _ (s : Numbering) (rows : Rows) (x : NumberedRows) (is : view_of s rows �
 none_held : {P : Type 0} {x : ℕ × ℕ} → Contains [] x → P
 none_held h = let lt = h.1 in absurd (omega (arith, lt))
 
-pub tops_known : (s : Numbering) (count : ℕ) → AreKnown s (record { running = replicate count 0; declared = []; known = [] })
+pub tops_known : (s : Numbering) (count : ℕ) → AreKnown s (record { running = replicate count 0; declared = []; kept = replicate count 0; known = [] })
 tops_known s count = record {
   running = tops_given s count;
   declared = λ row lt. absurd (omega (arith, lt));
@@ -75,13 +75,3 @@ module _ (s : Numbering) (rows : Rows) (known : AreKnown s rows) where
   }
 
 -- ---- by what a call says
-
-pub put_or_kept : {E : Type 0} (s : Numbering) (old new : Rows) (place n : ℕ) (r : Result Unit E) → AreKnown s old → IsGiven s n
-    → OnOk r (new ≡ record old { running = set old.running place n }) → OnErr r (new ≡ old) → AreKnown s new
-put_or_kept s old new place n (Ok u) known given ok err = subst (AreKnown s) (sym ok) (put_known s old place n known given)
-put_or_kept s old new place n (Err e) known given ok err = subst (AreKnown s) (sym err) known
-
-pub declared_or_kept : {R E : Type 0} (s : Numbering) (old new : Rows) (r : Result R E) → AreKnown s old
-    → OnOk r (new ≡ record old { declared = old.declared ++ old.running ∷ [] }) → OnErr r (new ≡ old) → AreKnown s new
-declared_or_kept s old new (Ok x) known ok err = subst (AreKnown s) (sym ok) (declared_known s old known)
-declared_or_kept s old new (Err e) known ok err = subst (AreKnown s) (sym err) known

@@ -49,7 +49,7 @@ stack_fits s stack ts units limit e u le = omega (arith, units_least (types_by s
 
 -- the frames once a frame of these parts is declared at an offset
 abbrev pub declared_with : NumberedFrames → ℕ → NumberedFrame → NumberedFrames
-declared_with x at f = record { types = x.types; limit = x.limit; running = f; declared = x.declared ++ (at, f) ∷ [] }
+declared_with x at f = record { types = x.types; limit = x.limit; running = f; declared = x.declared ++ (at, f) ∷ []; kept = x.kept }
 
 abbrev pub framed : List ℕ → List ℕ → Bool → NumberedFrame
 framed locals stack flag = record { locals = locals; stack = stack; flag = flag }

@@ -31,21 +31,6 @@ more_on x y z a b = record { others = b.others ∙ ap (parts_of z) a.others; siz
     parts_of : NumberedFrames → NumberedFrames → NumberedFrames
     parts_of z k = record k { running = z.running; declared = z.declared }
 
-pub rewritten_more : (x y : NumberedFrames) → AreRewritten x y → AreMore x y
-rewritten_more x y a = record { others = subst (λ k. k ≡ record x { running = k.running; declared = k.declared }) (sym a.others) refl; size = a.size }
-
-pub restacked_more : (x y : NumberedFrames) → IsRestacked x y → AreMore x y
-restacked_more x y e = record {
-  others = subst (λ k. k ≡ record x { running = k.running; declared = k.declared }) (sym e) refl;
-  size = ap (λ k. length k.running.locals) e;
-}
-
-pub flagged_more : (x y : NumberedFrames) (flag : Bool) → y ≡ record x { running = record x.running { flag = flag } } → AreMore x y
-flagged_more x y flag e = record {
-  others = subst (λ k. k ≡ record x { running = k.running; declared = k.declared }) (sym e) refl;
-  size = ap (λ k. length k.running.locals) e;
-}
-
 pub declared_more : (x y : NumberedFrames) (at : ℕ) → y ≡ record x { declared = x.declared ++ (at, x.running) ∷ [] } → AreMore x y
 declared_more x y at e = record {
   others = subst (λ k. k ≡ record x { running = k.running; declared = k.declared }) (sym e) refl;
@@ -193,6 +178,3 @@ entries_split es place d lt =
     let long = length-map es entry_of in
     drop_more (map entry_of es) place (entry_of d) (omega (arith, lt, long))
     ∙ ap (λ e. e ∷ drop (place + 1) (map entry_of es)) (get_or-map entry_of es place d (entry_of d) lt)
-
-pub entries_end : (es : List Held) (place : ℕ) → length es ≤ place → drop place (map entry_of es) ≡ []
-entries_end es place le = nil_from_length (drop place (map entry_of es)) (omega (arith, le, length-drop place (map entry_of es), length-map es entry_of))

@@ -14,9 +14,6 @@ use Rattle.method_frames.specs.private.Known.{AreGiven}
 use Rattle.method_frames.specs.private.MapFrames.{AreNumbers, AreRewritten}
 use Rattle.method_frames.proofs.Counting.{types_reverse}
 
-abbrev pub without_stack : NumberedFrames → NumberedFrames
-without_stack x = record x { running = record x.running { stack = [] } }
-
 -- ---- numbers as they are seen through a slice
 
 module _ (s : Numbering) (pool : List Entry) (xs seen : List TypeInfo) (ns vs : List ℕ) (same : seen ≡ xs) (shown : vs ≡ ns) (are : AreNumbers s ns (types_given pool (map info_of seen))) where

@@ -47,6 +47,14 @@ rows_stay old new e = record {
   same = λ k lt. ap (λ r. declared_in r k) e;
 }
 
+pub rows_kept : (old new : NumberedRows) → new ≡ record old { kept = old.running } → RowsGrow old new
+rows_kept old new e = record {
+  types = ap (λ r. r.types) e;
+  long = ap (λ r. length r.running) e;
+  more = let same = ap (λ r. length r.declared) e in omega (arith, same);
+  same = λ k lt. ap (λ r. declared_in r k) e;
+}
+
 pub rows_set : {E : Type 0} (old new : NumberedRows) (place n : ℕ) (r : Result Unit E) → OnOk r (new ≡ record old { running = set old.running place n }) → OnErr r (new ≡ old) → RowsGrow old new
 rows_set old new place n (Ok u) ok err = rows_run old new (set old.running place n) (length-set old.running place n) ok
 rows_set old new place n (Err e) ok err = rows_stay old new err
@@ -156,7 +164,7 @@ module _ (rows new : NumberedRows) (stacks newer : NumberedStacks) (flag : Bool)
   pub view_rows : newer ≡ stacks → frames_of new newer flag ds ≡ x
   view_rows b =
       ap (λ r. frames_of r newer flag ds) a ∙ ap (λ s. frames_of (declared_more rows) s flag ds) b
-      ∙ ap {B = NumberedFrames} (λ fs. record { types = rows.types; limit = stacks.limit; running = record { locals = rows.running; stack = stacks.running; flag = flag }; declared = fs })
+      ∙ ap {B = NumberedFrames} (λ fs. record { types = rows.types; limit = stacks.limit; running = record { locals = rows.running; stack = stacks.running; flag = flag }; declared = fs; kept = rows.kept })
       (frames_same rows (declared_more rows) stacks stacks (rows_declared rows (declared_more rows) refl) (stacks_stay stacks stacks refl) ds k.declared) ∙ is
 
   module _ (b : newer ≡ stacks_more stacks) where
@@ -167,7 +175,7 @@ module _ (rows new : NumberedRows) (stacks newer : NumberedStacks) (flag : Bool)
     pub view_parts : (news : List Declared) → news ≡ ds → frames_of new newer flag news ≡ x
     view_parts news q =
         ap (λ r. frames_of r newer flag news) a ∙ ap (λ s. frames_of (declared_more rows) s flag news) b ∙ ap (frames_of (declared_more rows) (stacks_more stacks) flag) q
-        ∙ ap {B = NumberedFrames} (λ fs. record { types = rows.types; limit = stacks.limit; running = record { locals = rows.running; stack = stacks.running; flag = flag }; declared = fs }) all_same ∙ is
+        ∙ ap {B = NumberedFrames} (λ fs. record { types = rows.types; limit = stacks.limit; running = record { locals = rows.running; stack = stacks.running; flag = flag }; declared = fs; kept = rows.kept }) all_same ∙ is
 
     pub parts_declared : AreFrames new newer m ds places
     parts_declared = grown rows new stacks newer (rows_declared rows new a) (stacks_declared stacks newer b) m ds places k
@@ -193,7 +201,7 @@ module _ (rows new : NumberedRows) (stacks newer : NumberedStacks) (flag : Bool)
       pub view_declared : frames_of new newer flag news ≡ record x { declared = x.declared ++ (d.offset, x.running) ∷ [] }
       view_declared =
           ap (λ r. frames_of r newer flag news) a ∙ ap (λ s. frames_of (declared_more rows) s flag news) b ∙ ap (frames_of (declared_more rows) (stacks_more stacks) flag) q
-          ∙ ap {B = NumberedFrames} (λ fs. record { types = rows.types; limit = stacks.limit; running = running; declared = fs }) all_more
+          ∙ ap {B = NumberedFrames} (λ fs. record { types = rows.types; limit = stacks.limit; running = running; declared = fs; kept = rows.kept }) all_more
           ∙ ap {A = NumberedFrames} {B = NumberedFrames} (λ y. record y { declared = y.declared ++ (d.offset, y.running) ∷ [] }) is
 
       is_last : IsDeclared (declared_more rows) (stacks_more stacks) d

@@ -26,9 +26,6 @@ own_least : (ts : List VerificationType) → own_among ts ≤ length ts
 own_least [] = omega arith
 own_least (t ∷ ts) = omega (arith, own_least ts, one_most (is_uninit_this t))
 
-pub none_summed : AreSummed [] 0 0
-none_summed = record { counted = none_counted; owned = λ s. refl }
-
 pub own_most : (ns : List ℕ) (wides own : ℕ) → AreSummed ns wides own → own ≤ length ns
 own_most ns wides own a =
     let s = none_numbered in

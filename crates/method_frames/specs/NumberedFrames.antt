@@ -25,6 +25,8 @@ pub record NumberedFrames : Type 0 where
   pub running : NumberedFrame
   -- the declared frames, each with its offset, in the order in which they were declared
   pub declared : List (ℕ × NumberedFrame)
+  -- the locals that the running frame had when they were kept last, at first all Top
+  pub kept : List ℕ
 
 abbrev pub empty_frame : NumberedFrame
 empty_frame = record { locals = []; stack = []; flag = false }

@@ -9,6 +9,8 @@ pub record NumberedRows : Type 0 where
   pub running : List ℕ
   -- those of the declared frames, in the order in which they were declared
   pub declared : List (List ℕ)
+  -- what that of the running frame held when it was kept last, at first Top throughout
+  pub kept : List ℕ
 
 abbrev pub declared_in : NumberedRows → ℕ → List ℕ
 declared_in x row = slice_index_or x.declared row []

@@ -69,10 +69,10 @@ fn reach(offset: u16, places: &mut Vec<usize>) -> Result<(), AllocError>
 }
 
 /// The entry of a table for an offset; 0 beyond its end.
-fn place_at(offset: u16, places: &[usize]) -> usize
+fn place_at(offset: usize, places: &[usize]) -> usize
     ensures { result ≡ slice_index places.now offset }
 {
-    places.get(usize::from(offset)).copied().unwrap_or(0)
+    places.get(offset).copied().unwrap_or(0)
 }
 
 impl<'t, 'c, 'n, C: Classes, S: BuildHasher> MethodFrames<'t, 'c, 'n, C, S> {
@@ -92,6 +92,7 @@ impl<'t, 'c, 'n, C: Classes, S: BuildHasher> MethodFrames<'t, 'c, 'n, C, S> {
     ghost use Rattle.type_numbers.specs.Decoding.{type_by, types_by};
     ghost use Rattle.method_frames.specs.Objects.{is_object, made_object, holds, replaced, initialized, IsClassNumber};
     ghost use Rattle.method_frames.specs.NumberedFrames.{frame_by, declared_frame};
+    ghost use Rattle.blocks.specs.Rows.{IsFirstUnequal};
 
     /// The running frame has so many locals, all of them top, and nothing on its stack. No frame is declared yet, and
     /// none will have more than so many items on its stack.
@@ -107,6 +108,7 @@ impl<'t, 'c, 'n, C: Classes, S: BuildHasher> MethodFrames<'t, 'c, 'n, C, S> {
           limit = max_stack;
           running = record { locals = replicate max_locals 0; stack = []; flag = flag };
           declared = [];
+          kept = replicate max_locals 0;
         }) }
     {
         Ok(MethodFrames {
@@ -127,6 +129,7 @@ impl<'t, 'c, 'n, C: Classes, S: BuildHasher> MethodFrames<'t, 'c, 'n, C, S> {
           limit = max_stack;
           running = record { locals = replicate max_locals 0; stack = []; flag = flag };
           declared = [];
+          kept = replicate max_locals 0;
         } }
     {
         self.locals.restart(max_locals);
@@ -329,8 +332,15 @@ impl<'t, 'c, 'n, C: Classes, S: BuildHasher> MethodFrames<'t, 'c, 'n, C, S> {
         Ok(frame)
     }
 
+    /// How many frames are declared.
+    pub fn count(&self) -> usize
+        ensures { result ≡ length self.now.declared }
+    {
+        self.declared.len()
+    }
+
     /// The place of the frame that is declared at an offset in bytes. Takes no memory.
-    pub fn find(&self, offset: u16) -> Option<usize>
+    pub fn find(&self, offset: usize) -> Option<usize>
         ensures { MatchOption result (at_offset self.now.declared offset ≡ None)
             (λ frame. IsSomeAnd (slice_get self.now.declared frame)
             (λ x. (x.0 ≡ offset) × (at_offset self.now.declared offset ≡ Some x.1))) }
@@ -394,6 +404,35 @@ impl<'t, 'c, 'n, C: Classes, S: BuildHasher> MethodFrames<'t, 'c, 'n, C, S> {
         }
         let locals = self.locals.answer(declared.locals);
         both(locals, stack)
+    }
+
+    /// Keeps the locals of the running frame as they are, in place of what was kept before. Takes no memory.
+    pub fn keep_locals(&mut self)
+        ensures { self.new ≡ record self.old { kept = self.old.running.locals } }
+    {
+        self.locals.keep();
+    }
+
+    /// The first local variable from one on whose type is not the one that was kept. Takes no time where nothing changed.
+    pub fn first_changed(&self, from: usize) -> Option<usize>
+        ensures first { IsFirstUnequal self.now.running.locals self.now.kept from result }
+        ensures even { length self.now.kept ≡ length self.now.running.locals }
+        ensures few { length self.now.running.locals < 2 ^ 16 }
+    {
+        self.locals.first_changed(from)
+    }
+
+    /// The first local variable that has other types in two declared frames.
+    pub fn first_unequal(&self, frame: usize, other: usize) -> Option<usize>
+        requires frame { frame < length self.now.declared }
+        requires other { other < length self.now.declared }
+        ensures first { IsFirstUnequal (declared_frame self.now frame).locals (declared_frame self.now other).locals 0
+            result }
+        ensures even { length (declared_frame self.now frame).locals ≡ length self.now.running.locals }
+    {
+        let row = self.declared[frame].locals;
+        let beside = self.declared[other].locals;
+        self.locals.first_unequal(row, beside)
     }
 
     /// The answer for a type where that of a local variable of a declared frame is wanted.

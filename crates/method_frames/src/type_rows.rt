@@ -14,7 +14,7 @@ use std::marker::Model;
 use type_numbers::TypeNumbers;
 
 /// Rows of types by their numbers, such as the local variables of the frames of one method (JVMS 4.10.1.2): the row of
-/// the running frame, and those of the declared frames.
+/// the running frame, those of the declared frames, and one that is kept to tell what changed since.
 ///
 /// Rows share what they have in common ([`Arena`]). A running row that was seen to fit a declared one is compared with
 /// it again only where it changed, so that a comparison takes time for what changed and not for the length of a row.
@@ -37,6 +37,7 @@ impl<'t, 'c, 'n, C: Classes, S: BuildHasher> Model for TypeRows<'t, 'c, 'n, C, S
       types = x.types.now;
       running = x.rows.running;
       declared = x.rows.declared;
+      kept = x.rows.kept;
     } };
 
     ghost invariant = { λ x. AreHeld (x.types.now) x.rows x.holders };
@@ -64,7 +65,7 @@ fn replace_listed(
 }
 
 impl<'t, 'c, 'n, C: Classes, S: BuildHasher> TypeRows<'t, 'c, 'n, C, S> {
-    ghost use Rattle.std.specs.Prelude.{◌≡◌, ◌<◌, ◌∷◌, ◌++◌, ◌⊎◌, ℕ, true, false, [], length, map, replicate, slice_index, slice_set, IfOk, OnOk, OnErr};
+    ghost use Rattle.std.specs.Prelude.{◌≡◌, ◌<◌, ◌^◌, ◌∷◌, ◌++◌, ◌⊎◌, ℕ, true, false, [], length, map, replicate, slice_index, slice_set, IfOk, OnOk, OnErr};
     ghost use Rattle.frames.specs.VerificationType.{VerificationType};
     ghost use Rattle.frames.specs.Objects.{replaced as type_replaced};
     ghost use Rattle.method_frames.specs.ObjectLaws.{IsObjectType};
@@ -75,6 +76,7 @@ impl<'t, 'c, 'n, C: Classes, S: BuildHasher> TypeRows<'t, 'c, 'n, C, S> {
     ghost use Rattle.type_numbers.specs.Numbers.{IsGiven, IsNumber};
     ghost use Rattle.type_numbers.specs.Decoding.{type_by, types_by};
     ghost use Rattle.method_frames.specs.TypeRows.{declared_in};
+    ghost use Rattle.blocks.specs.Rows.{IsFirstUnequal};
 
     /// Rows with so many places; the running one holds Top throughout.
     pub fn new(
@@ -86,6 +88,7 @@ impl<'t, 'c, 'n, C: Classes, S: BuildHasher> TypeRows<'t, 'c, 'n, C, S> {
           types = types.now;
           running = replicate count 0;
           declared = [];
+          kept = replicate count 0;
         }) }
     {
         Ok(TypeRows {
@@ -97,7 +100,12 @@ impl<'t, 'c, 'n, C: Classes, S: BuildHasher> TypeRows<'t, 'c, 'n, C, S> {
 
     /// Begins anew, for another method of the same class: keeps the memory, and takes none.
     pub fn restart(&mut self, count: u16)
-        ensures { self.new ≡ record { types = self.old.types; running = replicate count 0; declared = [] } }
+        ensures { self.new ≡ record {
+          types = self.old.types;
+          running = replicate count 0;
+          declared = [];
+          kept = replicate count 0;
+        } }
     {
         self.rows.restart(count);
         self.holders.clear();
@@ -178,6 +186,32 @@ impl<'t, 'c, 'n, C: Classes, S: BuildHasher> TypeRows<'t, 'c, 'n, C, S> {
         ensures { self.new ≡ record self.old { running = declared_in self.old row } }
     {
         self.rows.take(row)
+    }
+
+    /// Keeps the running row as it is, in place of what was kept before. Takes no memory.
+    pub fn keep(&mut self)
+        ensures { self.new ≡ record self.old { kept = self.old.running } }
+    {
+        self.rows.keep();
+    }
+
+    /// The first place from one on at which the running row differs from what was kept. Takes no time where nothing
+    /// changed.
+    pub fn first_changed(&self, from: usize) -> Option<usize>
+        ensures first { IsFirstUnequal self.now.running self.now.kept from result }
+        ensures even { length self.now.kept ≡ length self.now.running }
+        ensures few { length self.now.running < 2 ^ 16 }
+    {
+        self.rows.first_changed(from)
+    }
+
+    /// The first place at which two declared rows differ.
+    pub fn first_unequal(&self, row: Row, other: Row) -> Option<usize>
+        requires row { row < length self.now.declared }
+        requires other { other < length self.now.declared }
+        ensures { IsFirstUnequal (declared_in self.now row) (declared_in self.now other) 0 result }
+    {
+        self.rows.first_unequal(row, other)
     }
 
     /// The answer for the types at one place of the running row and of a declared one.

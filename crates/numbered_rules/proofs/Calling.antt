@@ -131,12 +131,6 @@ module _ (ns : List ℕ) (receiver : Option ℕ) (old : NumberedFrames) where
 -- ---- the receiver
 
 module _ (ns : List ℕ) (old was : NumberedFrames) (i : ℕ) (a : Outcome) (none : i ≡ 0) where
-  -- there is none
-  pub left_alone : IsLeft ns None old was i a → (ts : List FieldDescriptor) (r : Option ReferenceType) → AreNumbers old.types ns (map descriptor_type ts) → IsNumberOf old.types None (option_map to_reference r)
-      → TookOff old.types.classes (arguments_on ts (receivers r)) (held old) a (held was)
-  left_alone h ts None z k = off_end old.types.classes (arguments_on ts []) (held old) (held was) a (subst (λ j. RestOff old.types.classes (arguments_on ts []) (held old) a (arguments_on (take j ts) []) (held was)) none (h.rest ts None z k))
-  left_alone h ts (Some t) z k = absurd k
-
   module _ (n : ℕ) (h : IsLeft ns (Some n) old was i a) where
     last : (ts : List FieldDescriptor) (t : ReferenceType) → AreNumbers old.types ns (map descriptor_type ts) → IsNumberOf old.types (Some n) (Some (to_reference t))
         → RestOff old.types.classes (arguments_on ts (receivers (Some t))) (held old) a (assignable_to t ∷ []) (held was)

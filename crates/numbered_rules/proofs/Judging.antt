@@ -1,5 +1,4 @@
 -- Rules that refuse an instruction.
-use Rattle.std.specs.Prelude.{not}
 use Rattle.std.proofs.Common.{◌≡◌, ◌∙◌, ℕ, ◌&&◌, Bool, true, false, List, Some, inr, Err, ap, sym, refl}
 use Rattle.std.proofs.lemmas.Bool.{cond-false}
 use Rattle.classfile.specs.Methods.{Method}
@@ -18,10 +17,6 @@ use Rattle.rules.proofs.Settling.{by_typing_rule}
 
 pub refused : (m : Method Act) (at : ℕ) (p : TypingRule) (n : ℕ) (x : Reason) (cs : List ClassFact) (f now : FrameFact) → p ≡ refuses n → reason_view x ≡ reason n → Done (conditions cs m at p f) (after m at p f) now (Err x)
 refused m at p n x cs f now e is = by_typing_rule m at p (refuses n) cs f now (Err x) e (record { outcome = inr (ap (λ r. Some r) (sym is)) })
-
-pub not_true : (b : Bool) → not b ≡ true → b ≡ false
-not_true true e = cc
-not_true false e = refl
 
 pub and_false : (a : Bool) {b : Bool} → b ≡ false → (a && b) ≡ false
 and_false true e = e

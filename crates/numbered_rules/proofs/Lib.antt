@@ -11,3 +11,5 @@ pub mod Elements
 pub mod Calling
 pub mod Loading
 pub mod Results
+pub mod Objects
+pub mod NamedClasses

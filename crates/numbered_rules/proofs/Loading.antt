@@ -15,10 +15,22 @@ use Rattle.frames.specs.Slots.{descriptor_type, is_wide}
 use Rattle.type_numbers.specs.Constants.{loaded_type}
 use Rattle.rules.specs.TypingRules.{gives, refuses}
 use Rattle.rules.specs.Constants.{load_constant, load_wide_constant}
-use Rattle.numbered_rules.specs.private.Loading.{load_computed, units_by}
+use Rattle.numbered_rules.specs.private.Loading.{load_by, load_computed, units_by}
+
+alike : (a b : Bool) → not (beq a b) ≡ false → a ≡ b
+alike true true e = refl
+alike false false e = refl
+alike true false e = cc
+alike false true e = cc
+
+unlike : (a b : Bool) → not (beq a b) ≡ true → a ≡ not b
+unlike true true e = cc
+unlike false false e = cc
+unlike true false e = refl
+unlike false true e = refl
 
 module _ (m : Method Act) (type : Option FieldDescriptor) where
-  pub loads_narrow : (o : Option Entry) (t : VerificationType) → option_and_then loaded_type o ≡ Some t → is_wide t ≡ false → load_constant m type o ≡ gives t
+  loads_narrow : (o : Option Entry) (t : VerificationType) → option_and_then loaded_type o ≡ Some t → is_wide t ≡ false → load_constant m type o ≡ gives t
   loads_narrow None t e w = absurd (none_some e)
   loads_narrow (Some e) t is w = by e is
     where
@@ -36,7 +48,7 @@ module _ (m : Method Act) (type : Option FieldDescriptor) where
       by (entries.MethodHandle kind reference) is = ap gives (some_same is)
       by _ is = absurd (none_some is)
 
-  pub loads_no_wide : (o : Option Entry) (t : VerificationType) → option_and_then loaded_type o ≡ Some t → is_wide t ≡ true → load_constant m type o ≡ refuses 66
+  loads_no_wide : (o : Option Entry) (t : VerificationType) → option_and_then loaded_type o ≡ Some t → is_wide t ≡ true → load_constant m type o ≡ refuses 66
   loads_no_wide None t e w = absurd (none_some e)
   loads_no_wide (Some e) t is w = by e is
     where
@@ -54,7 +66,7 @@ module _ (m : Method Act) (type : Option FieldDescriptor) where
       by (entries.MethodHandle kind reference) is = absurd (narrow (ap is_wide (some_same is) ∙ w))
       by _ is = absurd (none_some is)
 
-  pub loads_by_computed : (o : Option Entry) → option_and_then loaded_type o ≡ None → load_constant m type o ≡ load_computed m 1 type o
+  loads_by_computed : (o : Option Entry) → option_and_then loaded_type o ≡ None → load_constant m type o ≡ load_computed m 1 type o
   loads_by_computed None e = refl
   loads_by_computed (Some e) is = by e is
     where
@@ -68,7 +80,7 @@ module _ (m : Method Act) (type : Option FieldDescriptor) where
       by (entries.Dynamic bootstrap name) is = refl
       by _ is = refl
 
-  pub loads_wide : (o : Option Entry) (t : VerificationType) → option_and_then loaded_type o ≡ Some t → is_wide t ≡ true → load_wide_constant m type o ≡ gives t
+  loads_wide : (o : Option Entry) (t : VerificationType) → option_and_then loaded_type o ≡ Some t → is_wide t ≡ true → load_wide_constant m type o ≡ gives t
   loads_wide None t e w = absurd (none_some e)
   loads_wide (Some e) t is w = by e is
     where
@@ -86,7 +98,7 @@ module _ (m : Method Act) (type : Option FieldDescriptor) where
       by (entries.MethodHandle kind reference) is = absurd (narrow (ap is_wide (some_same is) ∙ w))
       by _ is = absurd (none_some is)
 
-  pub loads_no_narrow : (o : Option Entry) (t : VerificationType) → option_and_then loaded_type o ≡ Some t → is_wide t ≡ false → load_wide_constant m type o ≡ refuses 66
+  loads_no_narrow : (o : Option Entry) (t : VerificationType) → option_and_then loaded_type o ≡ Some t → is_wide t ≡ false → load_wide_constant m type o ≡ refuses 66
   loads_no_narrow None t e w = absurd (none_some e)
   loads_no_narrow (Some e) t is w = by e is
     where
@@ -99,7 +111,7 @@ module _ (m : Method Act) (type : Option FieldDescriptor) where
       by (entries.Dynamic bootstrap name) is = absurd (none_some is)
       by _ is = refl
 
-  pub loads_wide_by_computed : (o : Option Entry) → option_and_then loaded_type o ≡ None → load_wide_constant m type o ≡ load_computed m 2 type o
+  loads_wide_by_computed : (o : Option Entry) → option_and_then loaded_type o ≡ None → load_wide_constant m type o ≡ load_computed m 2 type o
   loads_wide_by_computed None e = refl
   loads_wide_by_computed (Some e) is = by e is
     where
@@ -108,6 +120,19 @@ module _ (m : Method Act) (type : Option FieldDescriptor) where
       by (entries.Double high low) is = absurd (none_some (sym is))
       by (entries.Dynamic bootstrap name) is = refl
       by _ is = refl
+
+  -- by how many units it takes
+  pub loads_alike : (wide : Bool) (o : Option Entry) (t : VerificationType) → option_and_then loaded_type o ≡ Some t → not (beq (is_wide t) wide) ≡ false → load_by wide m type o ≡ gives t
+  loads_alike true o t is e = loads_wide o t is (alike (is_wide t) true e)
+  loads_alike false o t is e = loads_narrow o t is (alike (is_wide t) false e)
+
+  pub loads_unlike : (wide : Bool) (o : Option Entry) (t : VerificationType) → option_and_then loaded_type o ≡ Some t → not (beq (is_wide t) wide) ≡ true → load_by wide m type o ≡ refuses 66
+  loads_unlike true o t is e = loads_no_narrow o t is (unlike (is_wide t) true e)
+  loads_unlike false o t is e = loads_no_wide o t is (unlike (is_wide t) false e)
+
+  pub loads_other : (wide : Bool) (o : Option Entry) → option_and_then loaded_type o ≡ None → load_by wide m type o ≡ load_computed m (units_by wide) type o
+  loads_other true o e = loads_wide_by_computed o e
+  loads_other false o e = loads_by_computed o e
 
 pub width_by : (type : FieldDescriptor) → field_width type ≡ units_by (is_wide (descriptor_type type))
 width_by (primitive primitives.Long) = refl

@@ -8,7 +8,7 @@ use Rattle.frames.specs.FrameAssignable.{both}
 use Rattle.frames.specs.FrameFact.{FrameFact}
 use Rattle.type_numbers.specs.Numbers.{Numbering}
 use Rattle.type_numbers.specs.Decoding.{type_by, types_by}
-use Rattle.method_frames.specs.NumberedFrames.{NumberedFrame, NumberedFrames}
+use Rattle.method_frames.specs.NumberedFrames.{NumberedFrames}
 use Rattle.rules.specs.TypingRules.{ExpectedType, any_reference}
 use Rattle.rules.specs.Rules.{is_short}
 use Rattle.rules.specs.Outcomes.{TookOff, pushed}
@@ -38,12 +38,6 @@ running_then x y z a b = record {
 
 pub types_stay : (x y : NumberedFrames) → IsRunning x y → y.types ≡ x.types
 types_stay x y a = ap (λ (w : NumberedFrames). w.types) a.others
-
-pub running_is : (old new : NumberedFrames) (r : NumberedFrame) → new ≡ record old { running = r } → length r.locals ≡ length old.running.locals → IsRunning old new
-running_is old new r e long = record {
-  others = e ∙ ap (λ (z : NumberedFrame). record old { running = z }) (sym (ap (λ (x : NumberedFrames). x.running) e));
-  size = ap (λ (x : NumberedFrames). length x.running.locals) e ∙ long;
-}
 
 -- ---- an item that was on top
 

@@ -1,11 +1,11 @@
 -- The kind of a type by the parts of its number.
-use Rattle.std.proofs.Common.{◌≡◌, ◌∙◌, ◌&&◌, ◌+◌, ◌-◌, ◌*◌, ◌/◌, ◌%◌, ◌≤◌, ℕ, zero, suc, true, false, nat_lt, nat_eq, List, Option, Some, None, slice_get, refl, sym, ap, arith}
+use Rattle.std.proofs.Common.{◌≡◌, ◌∙◌, ◌&&◌, ◌+◌, ◌-◌, ◌*◌, ◌/◌, ◌%◌, ◌≤◌, ℕ, zero, suc, Bool, true, false, nat_lt, nat_eq, List, Option, Some, None, slice_get, refl, sym, ap, arith}
 use Rattle.std.proofs.lemmas.Bool.Decides.{nat_tests}
 use Rattle.names.specs.declared.base.Primitive.{Primitive}
 use Rattle.names.specs.Descriptors.{dimensioned, primitive}
 use Rattle.hierarchy.proofs.Names.{none_some, some_same}
 use Rattle.insn.specs.Acts.{takes_array}
-use Rattle.frames.specs.VerificationType.{VerificationType, array}
+use Rattle.frames.specs.VerificationType.{VerificationType, top, int, float, long, double, null, array, uninit_this, uninit}
 use Rattle.frames.specs.DeclaredFrames.{is_uninit_this}
 use Rattle.type_numbers.specs.Numbers.{Numbering, IsNumber}
 use Rattle.type_numbers.specs.Decoding.{element_at, type_with, type_at}
@@ -87,70 +87,48 @@ module _ (s : Numbering) (dims rest : ℕ) (t : VerificationType) where
         let c : nat_eq tag 4 ≡ false = grind (arith, nat_tests) in
         rw (a, b, c) (named_narrow dims _ t named)
 
+  -- a kind of types, and of tags
+  record IsKind (by : ℕ → Bool) (is : VerificationType → Bool) : Type 0 where
+    top : by 0 ≡ is top
+    int : by 1 ≡ is int
+    float : by 2 ≡ is float
+    double : by 3 ≡ is double
+    long : by 4 ≡ is long
+    null : by 5 ≡ is null
+    own : by 6 ≡ is uninit_this
+    named : (o : Option (List ℕ)) → type_with dims o ≡ Some t → by 7 ≡ is t
+    made : by 8 ≡ is (uninit rest)
+    primitives : by 9 ≡ is (array (dimensioned (dims - 1) (primitive (element_at rest))))
+    far : (tag : ℕ) → 10 ≤ tag → type_at s tag dims rest ≡ Some t → by tag ≡ is t
+
+  module _ (by : ℕ → Bool) (is : VerificationType → Bool) (k : IsKind by is) where
+    by_tag : (tag : ℕ) → type_at s tag dims rest ≡ Some t → by tag ≡ is t
+    by_tag zero e = k.top ∙ ap is (some_same e)
+    by_tag (suc zero) e = k.int ∙ ap is (some_same e)
+    by_tag (suc (suc zero)) e = k.float ∙ ap is (some_same e)
+    by_tag (suc (suc (suc zero))) e = k.double ∙ ap is (some_same e)
+    by_tag (suc (suc (suc (suc zero)))) e = k.long ∙ ap is (some_same e)
+    by_tag (suc (suc (suc (suc (suc zero))))) e = k.null ∙ ap is (some_same e)
+    by_tag (suc (suc (suc (suc (suc (suc zero)))))) e = k.own ∙ ap is (some_same e)
+    by_tag (suc (suc (suc (suc (suc (suc (suc zero))))))) e = k.named _ e
+    by_tag (suc (suc (suc (suc (suc (suc (suc (suc zero)))))))) e = k.made ∙ ap is (some_same e)
+    by_tag (suc (suc (suc (suc (suc (suc (suc (suc (suc zero))))))))) e = k.primitives ∙ ap is (some_same e)
+    by_tag (suc (suc (suc (suc (suc (suc (suc (suc (suc (suc i)))))))))) e = let high : 10 ≤ (suc (suc (suc (suc (suc (suc (suc (suc (suc (suc i)))))))))) = omega arith in k.far (suc (suc (suc (suc (suc (suc (suc (suc (suc (suc i)))))))))) high e
+
   reference_tag : (tag : ℕ) → type_at s tag dims rest ≡ Some t → is_reference_by tag ≡ is_reference t
-  reference_tag zero e = ap is_reference (some_same e)
-  reference_tag (suc zero) e = ap is_reference (some_same e)
-  reference_tag (suc (suc zero)) e = ap is_reference (some_same e)
-  reference_tag (suc (suc (suc zero))) e = ap is_reference (some_same e)
-  reference_tag (suc (suc (suc (suc zero)))) e = ap is_reference (some_same e)
-  reference_tag (suc (suc (suc (suc (suc zero))))) e = ap is_reference (some_same e)
-  reference_tag (suc (suc (suc (suc (suc (suc zero)))))) e = ap is_reference (some_same e)
-  reference_tag (suc (suc (suc (suc (suc (suc (suc zero))))))) e = named_reference dims _ t e
-  reference_tag (suc (suc (suc (suc (suc (suc (suc (suc zero)))))))) e = ap is_reference (some_same e)
-  reference_tag (suc (suc (suc (suc (suc (suc (suc (suc (suc zero))))))))) e = ap is_reference (some_same e)
-  reference_tag (suc (suc (suc (suc (suc (suc (suc (suc (suc (suc k)))))))))) e = let high : 10 ≤ (suc (suc (suc (suc (suc (suc (suc (suc (suc (suc k)))))))))) = omega arith in far_reference (suc (suc (suc (suc (suc (suc (suc (suc (suc (suc k)))))))))) high e
+  reference_tag = by_tag is_reference_by is_reference (record { top = refl; int = refl; float = refl; double = refl; long = refl; null = refl; own = refl; named = λ o. named_reference dims o t; made = refl; primitives = refl; far = far_reference })
 
   array_tag : (tag : ℕ) → type_at s tag dims rest ≡ Some t → is_array_by tag dims ≡ is_array t
-  array_tag zero e = ap is_array (some_same e)
-  array_tag (suc zero) e = ap is_array (some_same e)
-  array_tag (suc (suc zero)) e = ap is_array (some_same e)
-  array_tag (suc (suc (suc zero))) e = ap is_array (some_same e)
-  array_tag (suc (suc (suc (suc zero)))) e = ap is_array (some_same e)
-  array_tag (suc (suc (suc (suc (suc zero))))) e = ap is_array (some_same e)
-  array_tag (suc (suc (suc (suc (suc (suc zero)))))) e = ap is_array (some_same e)
-  array_tag (suc (suc (suc (suc (suc (suc (suc zero))))))) e = named_array dims _ t e
-  array_tag (suc (suc (suc (suc (suc (suc (suc (suc zero)))))))) e = ap is_array (some_same e)
-  array_tag (suc (suc (suc (suc (suc (suc (suc (suc (suc zero))))))))) e = ap is_array (some_same e)
-  array_tag (suc (suc (suc (suc (suc (suc (suc (suc (suc (suc k)))))))))) e = let high : 10 ≤ (suc (suc (suc (suc (suc (suc (suc (suc (suc (suc k)))))))))) = omega arith in far_array (suc (suc (suc (suc (suc (suc (suc (suc (suc (suc k)))))))))) high e
+  array_tag = by_tag (λ tag. is_array_by tag dims) is_array (record { top = refl; int = refl; float = refl; double = refl; long = refl; null = refl; own = refl; named = λ o. named_array dims o t; made = refl; primitives = refl; far = far_array })
 
   array_for_tag : (p : Primitive) (tag : ℕ) → type_at s tag dims rest ≡ Some t → is_array_for_by p tag dims rest ≡ is_array_for p t
-  array_for_tag p zero e = ap (is_array_for p) (some_same e)
-  array_for_tag p (suc zero) e = ap (is_array_for p) (some_same e)
-  array_for_tag p (suc (suc zero)) e = ap (is_array_for p) (some_same e)
-  array_for_tag p (suc (suc (suc zero))) e = ap (is_array_for p) (some_same e)
-  array_for_tag p (suc (suc (suc (suc zero)))) e = ap (is_array_for p) (some_same e)
-  array_for_tag p (suc (suc (suc (suc (suc zero))))) e = ap (is_array_for p) (some_same e)
-  array_for_tag p (suc (suc (suc (suc (suc (suc zero)))))) e = ap (is_array_for p) (some_same e)
-  array_for_tag p (suc (suc (suc (suc (suc (suc (suc zero))))))) e = named_array_for p dims _ t e
-  array_for_tag p (suc (suc (suc (suc (suc (suc (suc (suc zero)))))))) e = ap (is_array_for p) (some_same e)
-  array_for_tag p (suc (suc (suc (suc (suc (suc (suc (suc (suc zero))))))))) e = primitive_array_for p (element_at rest) dims ∙ ap (is_array_for p) (some_same e)
-  array_for_tag p (suc (suc (suc (suc (suc (suc (suc (suc (suc (suc k)))))))))) e = let high : 10 ≤ (suc (suc (suc (suc (suc (suc (suc (suc (suc (suc k)))))))))) = omega arith in far_array_for (suc (suc (suc (suc (suc (suc (suc (suc (suc (suc k)))))))))) high e p
+  array_for_tag p = by_tag (λ tag. is_array_for_by p tag dims rest) (is_array_for p) (record { top = refl; int = refl; float = refl; double = refl; long = refl; null = refl; own = refl; named = λ o. named_array_for p dims o t; made = refl; primitives = primitive_array_for p (element_at rest) dims; far = λ tag h e. far_array_for tag h e p })
 
   own_tag : (tag : ℕ) → type_at s tag dims rest ≡ Some t → is_own_by tag ≡ is_uninit_this t
-  own_tag zero e = ap is_uninit_this (some_same e)
-  own_tag (suc zero) e = ap is_uninit_this (some_same e)
-  own_tag (suc (suc zero)) e = ap is_uninit_this (some_same e)
-  own_tag (suc (suc (suc zero))) e = ap is_uninit_this (some_same e)
-  own_tag (suc (suc (suc (suc zero)))) e = ap is_uninit_this (some_same e)
-  own_tag (suc (suc (suc (suc (suc zero))))) e = ap is_uninit_this (some_same e)
-  own_tag (suc (suc (suc (suc (suc (suc zero)))))) e = ap is_uninit_this (some_same e)
-  own_tag (suc (suc (suc (suc (suc (suc (suc zero))))))) e = named_own dims _ t e
-  own_tag (suc (suc (suc (suc (suc (suc (suc (suc zero)))))))) e = ap is_uninit_this (some_same e)
-  own_tag (suc (suc (suc (suc (suc (suc (suc (suc (suc zero))))))))) e = ap is_uninit_this (some_same e)
-  own_tag (suc (suc (suc (suc (suc (suc (suc (suc (suc (suc k)))))))))) e = let high : 10 ≤ (suc (suc (suc (suc (suc (suc (suc (suc (suc (suc k)))))))))) = omega arith in far_own (suc (suc (suc (suc (suc (suc (suc (suc (suc (suc k)))))))))) high e
+  own_tag = by_tag is_own_by is_uninit_this (record { top = refl; int = refl; float = refl; double = refl; long = refl; null = refl; own = refl; named = λ o. named_own dims o t; made = refl; primitives = refl; far = far_own })
 
   narrow_tag : (tag : ℕ) → type_at s tag dims rest ≡ Some t → is_narrow_by tag ≡ is_narrow t
-  narrow_tag zero e = ap is_narrow (some_same e)
-  narrow_tag (suc zero) e = ap is_narrow (some_same e)
-  narrow_tag (suc (suc zero)) e = ap is_narrow (some_same e)
-  narrow_tag (suc (suc (suc zero))) e = ap is_narrow (some_same e)
-  narrow_tag (suc (suc (suc (suc zero)))) e = ap is_narrow (some_same e)
-  narrow_tag (suc (suc (suc (suc (suc zero))))) e = ap is_narrow (some_same e)
-  narrow_tag (suc (suc (suc (suc (suc (suc zero)))))) e = ap is_narrow (some_same e)
-  narrow_tag (suc (suc (suc (suc (suc (suc (suc zero))))))) e = named_narrow dims _ t e
-  narrow_tag (suc (suc (suc (suc (suc (suc (suc (suc zero)))))))) e = ap is_narrow (some_same e)
-  narrow_tag (suc (suc (suc (suc (suc (suc (suc (suc (suc zero))))))))) e = ap is_narrow (some_same e)
-  narrow_tag (suc (suc (suc (suc (suc (suc (suc (suc (suc (suc k)))))))))) e = let high : 10 ≤ (suc (suc (suc (suc (suc (suc (suc (suc (suc (suc k)))))))))) = omega arith in far_narrow (suc (suc (suc (suc (suc (suc (suc (suc (suc (suc k)))))))))) high e
+  narrow_tag = by_tag is_narrow_by is_narrow (record { top = refl; int = refl; float = refl; double = refl; long = refl; null = refl; own = refl; named = λ o. named_narrow dims o t; made = refl; primitives = refl; far = far_narrow })
 
 -- ---- by a number
 

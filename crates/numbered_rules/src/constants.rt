@@ -6,7 +6,7 @@ ghost use Rattle.frames.specs.Slots.{descriptor_type};
 ghost use Rattle.type_numbers.specs.Numbers.{IsNumberOf};
 ghost use Rattle.type_numbers.specs.Constants.{IsTable};
 ghost use Rattle.rules.specs.Constants.{is_bootstrapped, load_constant, load_dynamic, load_wide_constant};
-ghost use Rattle.numbered_rules.specs.private.Loading.{load_computed, units_by};
+ghost use Rattle.numbered_rules.specs.private.Loading.{load_by, load_computed, units_by};
 ghost use Rattle.rules.specs.After.{after};
 ghost use Rattle.rules.specs.Rules.{conditions};
 ghost use Rattle.rules.specs.Bodies.{method_view};
@@ -88,6 +88,32 @@ fn loads_computed<'n, C: Classes, S: BuildHasher>(
     }
 }
 
+/// Loads a constant, which takes two units where `wide` says so.
+fn loads_constant<'n, C: Classes, S: BuildHasher>(
+    method: &CodeMethod<'_, '_>,
+    wide: bool,
+    index: u16,
+    bootstrapped: bool,
+    table: &ConstantTable,
+    frames: &mut MethodFrames<'_, '_, 'n, C, S>,
+) -> Result<(), Reason<'n>>
+    requires table { IsTable frames.old.types (method_view method.now).constant_pool table.now }
+    requires bootstrapped { let m = method_view method.now in
+        bootstrapped ≡ is_bootstrapped m (constant_at m.constant_pool index) }
+    ensures done { (at : ℕ) → let m = method_view method.now in let f = held frames.old in
+        let p = load_by wide m (dynamic_type_at m.constant_pool index) (constant_at m.constant_pool index) in
+        Done (conditions frames.old.types.classes m at p f) (after m at p f) (held frames.new) result }
+    ensures rest { IsRunning frames.old frames.new }
+{
+    let Some(number) = loaded_at(table, index) else {
+        return loads_computed(method, wide, index, bootstrapped, table, frames);
+    };
+    if is_wide(number) != wide {
+        return Err(Reason::WrongConstant);
+    }
+    gives(method, number, frames)
+}
+
 /// `ldc` and `ldc_w`. Its refusals are 60, 66 and 90, and those of [`gives`].
 pub fn load_constant<'n, C: Classes, S: BuildHasher>(
     method: &CodeMethod<'_, '_>,
@@ -104,14 +130,7 @@ pub fn load_constant<'n, C: Classes, S: BuildHasher>(
         Done (conditions frames.old.types.classes m at p f) (after m at p f) (held frames.new) result }
     ensures rest { IsRunning frames.old frames.new }
 {
-    let Some(number) = loaded_at(table, index) else {
-        return loads_computed(method, false, index, bootstrapped, table, frames);
-    };
-    if is_wide(number) {
-        Err(Reason::WrongConstant)
-    } else {
-        gives(method, number, frames)
-    }
+    loads_constant(method, false, index, bootstrapped, table, frames)
 }
 
 /// `ldc2_w`. Its refusals are those of [`load_constant`].
@@ -130,12 +149,5 @@ pub fn load_wide_constant<'n, C: Classes, S: BuildHasher>(
         Done (conditions frames.old.types.classes m at p f) (after m at p f) (held frames.new) result }
     ensures rest { IsRunning frames.old frames.new }
 {
-    let Some(number) = loaded_at(table, index) else {
-        return loads_computed(method, true, index, bootstrapped, table, frames);
-    };
-    if is_wide(number) {
-        gives(method, number, frames)
-    } else {
-        Err(Reason::WrongConstant)
-    }
+    loads_constant(method, true, index, bootstrapped, table, frames)
 }

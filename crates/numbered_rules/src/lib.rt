@@ -5,11 +5,13 @@
 //!
 //! - `arguments`: how the arguments and the receiver of a call are taken.
 //! - `arrays`: instructions that make arrays of primitive types, and read and write elements of arrays.
-//! - `calls`: instructions that call methods; `special_calls`: `invokespecial` of methods that are not constructors.
+//! - `body`: the code of a method, with what the rules of its instructions ask for.
+//! - `calls`: instructions that call methods; `special_calls`: `invokespecial`.
 //! - `class_names`: casts, and instructions that make arrays of references and of arrays.
 //! - `computing`: instructions that take operands off the stack and push a result, and the loads and stores of numbers
 //!   and references.
 //! - `constants`: instructions that load constants.
+//! - `constructing`: calls of constructors; `making`: `new`.
 //! - `expected`: the expected types of operands, and whether a type meets one.
 //! - `families`: what several families of instructions share; loads and increments.
 //! - `fields`: instructions that read and write fields.
@@ -18,7 +20,7 @@
 //! - `operands`: how operands are taken.
 //! - `returning`: returns.
 //! - `rule_numbers`: the numbers of the types that the rules of a method's instructions ask for.
-//! - `running`: the rule of an instruction by its act, all but `new` and calls of constructors.
+//! - `running`: the rule of an instruction by its act.
 //! - `slots`: local variables in place; `storing`: stores to them.
 //! - `stacks`: instructions that move items of the stack, such as `dup` and `swap`.
 //!
@@ -28,14 +30,17 @@
 
 mod arguments;
 mod arrays;
+mod body;
 mod calls;
 mod class_names;
 mod computing;
 mod constants;
+mod constructing;
 mod expected;
 mod families;
 mod fields;
 mod kinds;
+mod making;
 mod named;
 mod operands;
 mod returning;
@@ -50,6 +55,7 @@ pub use arguments::take_arguments;
 pub use arrays::{
     load_element, load_reference_element, new_array, store_element, store_reference_element,
 };
+pub use body::Body;
 pub use calls::{invoke_dynamic, invoke_interface, invoke_static, invoke_virtual};
 pub use class_names::{check_cast, instance_of, new_multi_array, new_reference_array};
 pub use computing::{
@@ -62,6 +68,8 @@ pub use expected::{Asked, Expected};
 pub use families::{counts, give, gives, judge_left, loads, pops, settle};
 pub use fields::{get_field, get_static, put_field, put_static};
 pub use kinds::{DOUBLE, FLOAT, INT, LONG, NULL, TOP, number_of};
+pub use making::new_object;
+pub use named::superclass;
 pub use operands::take;
 pub use returning::{return_nothing, return_number, return_reference};
 pub use rule_numbers::{NamedFacts, RuleNumbers};

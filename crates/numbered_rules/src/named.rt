@@ -2,11 +2,16 @@
 ghost use Rattle.std.specs.Prelude.{List, option_map};
 ghost use Rattle.pool.specs.Entries.{Entry};
 ghost use Rattle.pool.specs.ConstantMeanings.{class_at, field_at, method_at, dynamic_type_at, call_site_at};
+ghost use Rattle.classfile.specs.Methods.{class_named};
+ghost use Rattle.frames.specs.VerificationType.{class as class_of};
 ghost use Rattle.frames.specs.Slots.{descriptor_type, to_reference};
 ghost use Rattle.type_numbers.specs.Numbers.{Numbering, IsNumberOf};
 ghost use Rattle.type_numbers.specs.Constants.{IsTable, arguments_of, loaded_at};
+ghost use Rattle.rules.specs.Bodies.{method_view};
 ghost use Rattle.numbered_rules.specs.private.Named.{IsFieldOf, IsMethodOf, IsSiteOf};
 
+use crate::class_names::dimensions;
+use classfile::CodeMethod;
 use type_numbers::{ConstantTable, MethodNumbers, NamedConstant};
 
 /// A field that an instruction names.
@@ -48,6 +53,34 @@ pub fn class_at(table: &ConstantTable, index: u16) -> Option<u32>
     match table.get(index) {
         NamedConstant::Class { class, .. } => Some(class),
         _ => None,
+    }
+}
+
+/// The number of the class that the Class at an index names, which is not an array.
+pub fn class_named(table: &ConstantTable, index: u16) -> Option<u32>
+    ensures { (s : Numbering) (pool : List Entry) → IsTable s pool table.now
+        → IsNumberOf s result (option_map class_of (class_named (class_at pool index))) }
+{
+    let Some(class) = class_at(table, index) else {
+        return None;
+    };
+    if dimensions(class) == 0 {
+        Some(class)
+    } else {
+        None
+    }
+}
+
+/// The number of the direct superclass of the class that declares a method, which Object alone has not (JVMS 4.1).
+pub fn superclass(method: &CodeMethod<'_, '_>, table: &ConstantTable) -> Option<u32>
+    ensures { let m = method_view method.now in (s : Numbering) → IsTable s m.constant_pool table.now
+        → IsNumberOf s result (option_map class_of m.superclass) }
+{
+    let index = method.class.super_class;
+    if index == 0 {
+        None
+    } else {
+        class_named(table, index)
     }
 }
 

@@ -15,6 +15,8 @@ pub struct RuleNumbers<'k> {
     pub throwable: u32,
     /// The class that declares the method.
     pub class: u32,
+    /// The direct superclass of that one; none of the class `Object`.
+    pub superclass: Option<u32>,
     /// The type of the method's result, if it has one.
     pub returned: Option<u32>,
 }

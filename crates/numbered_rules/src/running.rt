@@ -9,11 +9,12 @@ ghost use Rattle.rules.specs.Naming.{names_bootstrapped, sets_own};
 ghost use Rattle.rules.specs.Ways.{is_plain};
 ghost use Rattle.rules.specs.Outcomes.{Done};
 ghost use Rattle.numbered_rules.specs.Held.{held, IsRunning};
-ghost use Rattle.numbered_rules.specs.Running.{constructs_nothing, AreRuleNumbers};
+ghost use Rattle.numbered_rules.specs.Running.{AreRuleNumbers};
 
 use crate::arrays::{
     load_element, load_reference_element, new_array, store_element, store_reference_element,
 };
+use crate::body::Body;
 use crate::calls::{invoke_dynamic, invoke_interface, invoke_static, invoke_virtual};
 use crate::class_names::{check_cast, instance_of, new_multi_array, new_reference_array};
 use crate::computing::{
@@ -24,6 +25,7 @@ use crate::computing::{
 use crate::constants::{load_constant, load_wide_constant};
 use crate::families::counts;
 use crate::fields::{get_field, get_static, put_field, put_static};
+use crate::making::new_object;
 use crate::returning::{return_nothing, return_number, return_reference};
 use crate::rule_numbers::{NamedFacts, RuleNumbers};
 use crate::special_calls::invoke_special;
@@ -35,28 +37,30 @@ use method_frames::MethodFrames;
 use rules::Reason;
 use std::hash::BuildHasher;
 
-/// Runs an instruction that is no `new` and calls no constructor on the running frame, in place, by its rule (JVMS
-/// 4.10.1.9). The frame has max_locals locals, and the facts are those of what the instruction names.
+/// Runs the instruction at an offset on the running frame, in place, by its rule (JVMS 4.10.1.9). The frame has
+/// max_locals locals, and the facts are those of what the instruction names.
 ///
 /// The instruction is refused with the least number of its rule that holds (60 to 66, 74, 76, 77, 90), or with 1 where
 /// memory ran out; then nothing is said of the frame but how many locals it has.
 pub fn run<'n, C: Classes, S: BuildHasher>(
-    method: &CodeMethod<'_, '_>,
+    body: &Body<'_, '_>,
+    at: u16,
     act: &Act<'_>,
     facts: NamedFacts,
-    numbers: &RuleNumbers<'_>,
     frames: &mut MethodFrames<'_, '_, 'n, C, S>,
 ) -> Result<(), Reason<'n>>
-    requires locals { length frames.old.running.locals ≡ method.now.code.now.max_locals }
-    requires numbers { AreRuleNumbers frames.old.types (method_view method.now) numbers.now }
-    requires own { facts.own ≡ sets_own (method_view method.now) (act_view act.now) }
-    requires bootstrapped { facts.bootstrapped ≡ names_bootstrapped (method_view method.now) (act_view act.now) }
-    requires other { constructs_nothing (method_view method.now) (act_view act.now) ≡ true }
-    ensures done { (at : ℕ) → let m = method_view method.now in let f = held frames.old in
+    requires locals { length frames.old.running.locals ≡ body.now.method.now.code.now.max_locals }
+    requires numbers { AreRuleNumbers frames.old.types (method_view body.now.method.now) body.now.numbers }
+    requires own { facts.own ≡ sets_own (method_view body.now.method.now) (act_view act.now) }
+    requires bootstrapped { facts.bootstrapped
+        ≡ names_bootstrapped (method_view body.now.method.now) (act_view act.now) }
+    ensures done { let m = method_view body.now.method.now in let f = held frames.old in
         let p = typing_rule m (act_view act.now) in
         Done (conditions frames.old.types.classes m at p f) (after m at p f) (held frames.new) result }
     ensures rest { IsRunning frames.old frames.new }
 {
+    let method = body.method;
+    let numbers = &body.numbers;
     let table = numbers.table;
     match *act {
         Act::Goto { .. } => takes_nothing(method, frames),
@@ -73,9 +77,7 @@ pub fn run<'n, C: Classes, S: BuildHasher>(
         Act::GetField { index } => get_field(method, index, table, frames),
         Act::PutField { index } => put_field(method, index, facts.own, table, frames),
         Act::InvokeVirtual { index } => invoke_virtual(method, index, table, frames),
-        Act::InvokeSpecial { index } => {
-            invoke_special(method, index, numbers.class, table, frames)
-        }
+        Act::InvokeSpecial { index } => invoke_special(body, index, frames),
         Act::InvokeStatic { index } => invoke_static(method, index, table, frames),
         Act::InvokeInterface { index, count } => {
             invoke_interface(method, index, count, table, frames)
@@ -95,7 +97,7 @@ pub fn run<'n, C: Classes, S: BuildHasher>(
         }
         Act::CheckCast { index } => check_cast(method, index, numbers.object, table, frames),
         Act::InstanceOf { index } => instance_of(method, index, numbers.object, table, frames),
-        Act::New { .. } => unreachable!(),
+        Act::New { index } => new_object(method, at, index, table, frames),
         _ => run_plain(method, act, numbers, frames),
     }
 }

@@ -1,22 +1,24 @@
-//! `invokespecial` of methods that are not constructors.
-ghost use Rattle.std.specs.Prelude.{◌≡◌, ◌&&◌, ℕ, List, false, [], ◌∷◌, Some};
-ghost use Rattle.std.specs.Option.{option_map_or};
+//! `invokespecial`.
+ghost use Rattle.std.specs.Prelude.{◌≡◌, ◌&&◌, ℕ, List, [], ◌∷◌};
 ghost use Rattle.names.specs.ReferenceTypes.{is_class_type};
 ghost use Rattle.pool.specs.ConstantMeanings.{MethodConstant, method_at};
 ghost use Rattle.frames.specs.VerificationType.{class};
 ghost use Rattle.type_numbers.specs.Numbers.{Numbering, IsNumber};
-ghost use Rattle.type_numbers.specs.Constants.{IsTable, arguments_of};
+ghost use Rattle.type_numbers.specs.Constants.{arguments_of};
 ghost use Rattle.rules.specs.TypingRules.{arguments_on, calls_special, expected_class, result_types};
-ghost use Rattle.rules.specs.Constants.{has_room_for_receiver, invoke_special, is_init_name, may_name, special_call};
+ghost use Rattle.rules.specs.Constants.{has_room_for_receiver, invoke_special, may_name, special_call};
 ghost use Rattle.numbered_rules.specs.private.Named.{IsMethod};
 ghost use Rattle.rules.specs.After.{after};
 ghost use Rattle.rules.specs.Rules.{conditions};
 ghost use Rattle.rules.specs.Bodies.{method_view};
 ghost use Rattle.rules.specs.Outcomes.{Done};
 ghost use Rattle.numbered_rules.specs.Held.{held, IsRunning};
+ghost use Rattle.numbered_rules.specs.Running.{AreRuleNumbers};
 
 use crate::arguments::take_arguments;
+use crate::body::Body;
 use crate::calls::{has_room_for_receiver, is_of_class, may_name};
+use crate::constructing::invoke_constructor;
 use crate::families::settle;
 use crate::named::{NamedMethod, method_at};
 use classfile::CodeMethod;
@@ -89,26 +91,27 @@ fn call_special<'n, C: Classes, S: BuildHasher>(
     }
 }
 
-/// `invokespecial` of a method that is not a constructor, by the number of the current class. Its refusals are 66 where
-/// it may not name the method or the current class is not assignable to the method's, and those of
-/// [`invoke_static`](crate::invoke_static).
+/// `invokespecial`. Its refusals are 66 where it may not name the method, or the current class is not assignable to that
+/// of a method that is not a constructor; 61 and 62 where the arguments or the object beneath them are not those of its
+/// rule; 65, 77, and 1 where memory runs out.
 pub fn invoke_special<'n, C: Classes, S: BuildHasher>(
-    method: &CodeMethod<'_, '_>,
+    body: &Body<'_, '_>,
     index: u16,
-    me: u32,
-    table: &ConstantTable,
     frames: &mut MethodFrames<'_, '_, 'n, C, S>,
 ) -> Result<(), Reason<'n>>
-    requires table { IsTable frames.old.types (method_view method.now).constant_pool table.now }
-    requires me { IsNumber frames.old.types me (class (method_view method.now).class) }
-    requires other { option_map_or is_init_name (method_at (method_view method.now).constant_pool index) false ≡ false }
-    ensures done { (at : ℕ) → let m = method_view method.now in let f = held frames.old in
+    requires { AreRuleNumbers frames.old.types (method_view body.now.method.now) body.now.numbers }
+    ensures done { (at : ℕ) → let m = method_view body.now.method.now in let f = held frames.old in
         let p = invoke_special m.major_version m.class (method_at m.constant_pool index) in
         Done (conditions frames.old.types.classes m at p f) (after m at p f) (held frames.new) result }
     ensures rest { IsRunning frames.old frames.new }
 {
-    match method_at(table, index) {
-        None => Err(Reason::WrongConstant),
-        Some(called) => call_special(method, called, me, table, frames),
+    let Some(called) = method_at(body.numbers.table, index) else {
+        return Err(Reason::WrongConstant);
+    };
+    if called.init {
+        invoke_constructor(body, called, frames)
+    } else {
+        let numbers = &body.numbers;
+        call_special(body.method, called, numbers.class, numbers.table, frames)
     }
 }

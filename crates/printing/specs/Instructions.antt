@@ -1,6 +1,6 @@
 -- The lines of a method's code: an instruction with its offset, its name and its operands in the order of the file
 -- (JVMS 6.5).
-use Rattle.std.specs.Prelude.{ℕ, ℤ, pos, ◌+ℤ◌, List, [], ◌++◌, codes, decimal}
+use Rattle.std.specs.Prelude.{ℕ, ℤ, pos, ◌+ℤ◌, Bool, true, false, List, [], ◌++◌, codes, decimal}
 use Rattle.std.specs.Fmt.{signed_decimal}
 use Rattle.std.specs.List.{flat_map}
 use Rattle.insn.specs.Instructions.{Instruction, Operands, pairs, nothing, byte, short, constant, index, local, increment, branch, wide_branch, invoke_interface, invoke_dynamic, new_array, multi_new_array, table_switch, lookup_switch, wide_local, wide_increment}
@@ -74,3 +74,12 @@ named_text x = wide_text x.1.operands ++ (mnemonic (modified x.1.opcode x.1.oper
 
 abbrev pub offset_text : ℕ → List ℕ
 offset_text at = codes "  " ++ (decimal at ++ codes " ")
+
+-- where the line ends, its end
+abbrev pub end_text : Bool → List ℕ
+end_text true = codes "\n"
+end_text false = []
+
+-- an offset and a name, and the line's end where it ends there
+abbrev pub beginning_text : ℕ → List ℕ → Bool → List ℕ
+beginning_text at name ends = offset_text at ++ (name ++ end_text ends)

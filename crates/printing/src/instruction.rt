@@ -1,13 +1,14 @@
 //! The line of an instruction (JVMS 6.5).
-ghost use Rattle.std.specs.Prelude.{◌≡◌, ◌≤◌, ◌<◌, ◌++◌, codes};
+ghost use Rattle.std.specs.Prelude.{◌≡◌, ◌<◌, ◌++◌, true, codes, length};
 ghost use Rattle.std.specs.List.{flat_map};
 ghost use Rattle.printing.specs.Writing.{Writes};
-ghost use Rattle.printing.specs.Instructions.{target_text, pair_text, wide_text, operands_text, offset_text};
-ghost use Rattle.insn.specs.Views.{operands_view};
+ghost use Rattle.printing.specs.Instructions.{target_text, pair_text, wide_text, operands_text, offset_text, beginning_text, instruction_line};
+ghost use Rattle.insn.specs.Opcodes.{mnemonic};
+ghost use Rattle.insn.specs.Views.{operands_view, located};
 
 use crate::print::{Number, Print, Then, Word, WriteFailed, put_bytes};
-use insn::{Insn, LookupSwitch, Operands, Pairs, TableSwitch, Targets, mnemonic};
-use itoa::Integer;
+use insn::{Insn, LookupSwitch, Opcode, Operands, Pairs, TableSwitch, Targets, mnemonic};
+use itoa::{Integer, write_digits};
 use std::io::Write;
 
 /// A number behind a blank.
@@ -263,68 +264,63 @@ impl Print for Offset {
     ghost text = { λ t. offset_text t.0 };
 
     fn put<W: Write>(&self, out: &mut W) -> Result<(), WriteFailed> {
-        if self.0 >= 1_000 && self.0 < 10_000 {
-            put_offset_of_four(out, self.0)
-        } else if self.0 >= 10_000 && self.0 < 100_000 {
-            put_offset_of_five(out, self.0)
-        } else {
-            Then(Word("  "), Then(Number(self.0), Word(" "))).put(out)
-        }
+        put_beginning(out, self.0, "", false)
     }
 }
 
-/// Writes an offset of four digits at once.
-fn put_offset_of_four<W: Write>(out: &mut W, at: usize) -> Result<(), WriteFailed>
-    requires { (1000 ≤ at) × (at < 10000) }
-    ensures { Writes (W.contents out.old) (W.contents out.new) (offset_text at) result }
+/// A line with no offset and no name in it: blanks, and from where a name begins on ends of the line.
+const EMPTY_LINE: [u8; 48] =
+    *b"                       \n\n\n\n\n\n\n\n\n\n\n\n\n\n\n\n\n\n\n\n\n\n\n\n\n";
+
+/// Where a name begins.
+const NAME: usize = 23;
+
+/// Writes the offset of an instruction with the blanks around it, a short name behind it and, if the line ends there,
+/// its end, all at once.
+#[inline(always)]
+fn put_beginning<W: Write>(
+    out: &mut W,
+    at: usize,
+    name: &str,
+    ends: bool,
+) -> Result<(), WriteFailed>
+    requires { length name.now < 25 }
+    ensures { Writes (W.contents out.old) (W.contents out.new) (beginning_text at name.now ends) result }
 {
-    let tens = at / 10;
-    let hundreds = tens / 10;
-    let thousands = hundreds / 10;
-    put_bytes(
-        out,
-        &[
-            b' ',
-            b' ',
-            b'0' + thousands as u8,
-            b'0' + (hundreds % 10) as u8,
-            b'0' + (tens % 10) as u8,
-            b'0' + (at % 10) as u8,
-            b' ',
-        ],
-    )
+    let mut line = EMPTY_LINE;
+    let end = NAME + name.len();
+    line[NAME..end].copy_from_slice(name.as_bytes());
+    let start = write_digits(at as u64, &mut line, NAME - 1);
+    put_bytes(out, &line[start - 2..end + usize::from(ends)])
 }
 
-/// Writes an offset of five digits at once.
-fn put_offset_of_five<W: Write>(out: &mut W, at: usize) -> Result<(), WriteFailed>
-    requires { (10000 ≤ at) × (at < 100000) }
-    ensures { Writes (W.contents out.old) (W.contents out.new) (offset_text at) result }
+/// Writes the line of an instruction without operands.
+#[inline(always)]
+fn put_alone<W: Write>(out: &mut W, at: usize, opcode: Opcode) -> Result<(), WriteFailed>
+    ensures { Writes (W.contents out.old) (W.contents out.new) (beginning_text at (mnemonic opcode) true) result }
 {
-    let tens = at / 10;
-    let hundreds = tens / 10;
-    let thousands = hundreds / 10;
-    put_bytes(
-        out,
-        &[
-            b' ',
-            b' ',
-            b'0' + (thousands / 10) as u8,
-            b'0' + (thousands % 10) as u8,
-            b'0' + (hundreds % 10) as u8,
-            b'0' + (tens % 10) as u8,
-            b'0' + (at % 10) as u8,
-            b' ',
-        ],
-    )
+    put_beginning(out, at, opcode.mnemonic(), true)
+}
+
+/// Writes the line of an instruction, whether or not it has operands. It stands apart, so that the others go out where
+/// the instructions are gone through.
+#[inline(never)]
+fn put_with_operands<W: Write>(out: &mut W, it: Located<'_>) -> Result<(), WriteFailed>
+    ensures { Writes (W.contents out.old) (W.contents out.new)
+        (instruction_line (located (it.entry.at, it.entry.insn))) result }
+{
+    Then(Offset(it.at), Then(Named(it), Word("\n"))).put(out)
 }
 
 impl<'a> Print for Located<'a> {
-    ghost use Rattle.insn.specs.Views.{located};
-    ghost use Rattle.printing.specs.Instructions.{instruction_line};
-
     ghost text = { λ t. instruction_line (located (t.at, t.insn)) };
 
+    #[inline(always)]
     fn put<W: Write>(&self, out: &mut W) -> Result<(), WriteFailed> {
-        Then(Offset(self.at), Then(Named(*self), Word("\n"))).put(out)
+        if let Operands::Nothing = self.insn.operands {
+            put_alone(out, self.at, self.insn.opcode)
+        } else {
+            put_with_operands(out, *self)
+        }
     }
 }

@@ -23,6 +23,23 @@ pub trait Print {
 pub fn put_bytes<W: Write>(out: &mut W, bytes: &[u8]) -> Result<(), WriteFailed>
     ensures { Writes (W.contents out.old) (W.contents out.new) bytes.now result }
 {
+    if bytes.is_empty() {
+        return Ok(());
+    }
+    match out.write(bytes) {
+        Ok(n) if n == bytes.len() => Ok(()),
+        Ok(0) => Err(WriteFailed),
+        Ok(n) => put_rest(out, bytes.split_at(n).1),
+        Err(_) => Err(WriteFailed),
+    }
+}
+
+/// Writes the bytes that a write left. It stands apart, so that one write is inlined, and no loop.
+#[cold]
+#[inline(never)]
+fn put_rest<W: Write>(out: &mut W, bytes: &[u8]) -> Result<(), WriteFailed>
+    ensures { Writes (W.contents out.old) (W.contents out.new) bytes.now result }
+{
     let mut rest = bytes;
     while !rest.is_empty() {
         match out.write(rest) {

@@ -38,7 +38,7 @@ pub fn item_beneath<'a>(count: usize, stack: &[VType<'a>]) -> VType<'a>
 }
 
 /// Whether an `invokespecial` of this method calls a constructor.
-fn is_constructor(called: &MethodConstant<'_>) -> bool
+pub fn is_constructor(called: &MethodConstant<'_>) -> bool
     ensures { let c = method_constant_view called.now in
         result ≡ (is_init_name c && (is_class_type c.class && (not c.interface && has_room_for_receiver c))) }
 {

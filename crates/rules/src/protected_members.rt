@@ -30,7 +30,7 @@ pub struct Use {
 }
 
 /// The member that an instruction uses on an object, if it uses one.
-fn used_by<'a>(_method: &CodeMethod<'_, 'a>, act: &Act<'a>, named: &Named<'a>) -> Option<Use>
+pub fn used_by<'a>(_method: &CodeMethod<'_, 'a>, act: &Act<'a>, named: &Named<'a>) -> Option<Use>
     requires { IsNamed (method_view _method.now) (act_view act.now) named.now }
     ensures { Uses (method_view _method.now) (act_view act.now) result }
 {
@@ -68,7 +68,7 @@ fn object_answer<'a, C: Classes>(name: &'a [u8], t: &VType<'a>, classes: &C) -> 
 }
 
 /// 82 where an object is none of the class, and 77 where a class is missing.
-fn check_object<'a>(answer: Answer<'a>) -> Result<(), Reason<'a>>
+pub fn check_object<'a>(answer: Answer<'a>) -> Result<(), Reason<'a>>
     ensures { Judges (object_conditions (outcome_of answer.entry)) result }
 {
     match answer {

@@ -154,9 +154,3 @@ descriptors_stay old new more pool d h = record {
   long = h.long;
   read = λ k. reading_on old new more (row_of d) (row_of d) (goes_nowhere (row_of d)) (method_in pool k) (slice_index_or d.readings.items k Unread) (h.read k);
 }
-
-pub goes_equal : (row later : List ℕ) → later ≡ row → GoesOn row later
-goes_equal row later e = subst (GoesOn row) (sym e) (goes_nowhere row)
-
-pub goes_further : (a b c : List ℕ) → GoesOn a b → GoesOn b c → GoesOn a c
-goes_further a b c f g = (f.0 ++ g.0, g.1 ∙ ap (λ xs. xs ++ g.0) f.1 ∙ append_assoc a f.0 g.0)

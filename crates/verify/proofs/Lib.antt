@@ -20,7 +20,7 @@ pub mod TableEntries
 pub mod Comparing
 pub mod Going
 pub mod Ends
-mod Plain
+pub mod Plain
 pub mod Repeated
 pub mod Unlike
 pub mod Detailed

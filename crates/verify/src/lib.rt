@@ -82,8 +82,10 @@ mod verified_walk;
 pub use classes_in_play::{TogetherFault, verify_together, verify_together_under};
 pub use detail::Detail;
 pub use difference_at::DifferenceAt;
+pub use exceptions::Entry;
 pub use explanation::Explained;
 pub use files::{FileFault, FileRead, class_file};
+pub use flow::{check_answer, check_end};
 pub use frames_at::FramesAt;
 pub use judgements::{EachFault, Judgement, verify_each};
 pub use known_classes::{AmongFault, explain_among_under, verify_among, verify_among_under};
@@ -93,7 +95,9 @@ pub use laws::{
     type_safe_is_verified, verified_is_type_safe, walks_are_runs,
 };
 pub use method::verify_method;
+pub use place_set::PlaceSet;
 pub use play::{PlayFault, PlayRule, verify_play};
+pub use refusal::{refuse, stack_map};
 pub use report::{
     ClassFault, MethodVerdict, Report, verify_class, verify_class_under, verify_methods,
 };

@@ -21,14 +21,15 @@ abbrev pub known_pairs : List Node → ℕ → List (ℕ × ℕ)
 known_pairs ns zero = []
 known_pairs ns (suc n) = known_pairs ns n ++ pairs_of ns n (node_at ns n).seen
 
-abbrev pub rows_of : List Node → ℕ → ℕ → List ℕ → Rows
-rows_of ns root count declared = record {
+abbrev pub rows_of : List Node → ℕ → ℕ → ℕ → List ℕ → Rows
+rows_of ns root kept count declared = record {
   running = row_of ns count root;
   declared = map (row_of ns count) declared;
+  kept = row_of ns count kept;
   known = known_pairs ns (length ns);
 }
 
-pub record IsArena (ns : List Node) (own root count : ℕ) (declared : List ℕ) : Type 0 where
+pub record IsArena (ns : List Node) (own root kept count : ℕ) (declared : List ℕ) : Type 0 where
   pub tree : IsTree ns own
   pub base : 4 ≤ own
   pub inside : root < length ns
@@ -36,6 +37,7 @@ pub record IsArena (ns : List Node) (own root count : ℕ) (declared : List ℕ)
   pub reach : count ≤ width (level_of ns root)
   pub rows : (i : ℕ) → i < length declared → (slice_index declared i < own)
       × (level_of ns (slice_index declared i) ≡ level_of ns root)
+  pub keeps : (kept < own) × (level_of ns kept ≡ level_of ns root)
   -- slots behind the last hold Top
   pub rest : (slot : ℕ) → count ≤ slot → slot < width (level_of ns root) → number_at ns (level_of ns root) root slot ≡ 0
   pub rests : (i slot : ℕ) → i < length declared → count ≤ slot → slot < width (level_of ns root)

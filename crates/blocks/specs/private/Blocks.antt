@@ -1,5 +1,5 @@
 -- Blocks of 16 numbers.
-use Rattle.std.specs.Prelude.{◌≡◌, ℕ, ◌≤◌, ◌<◌, ◌*◌, ◌/◌, ◌%◌, ◌^◌, true, false, List, slice_index}
+use Rattle.std.specs.Prelude.{◌≡◌, ◌≢◌, ℕ, ◌≤◌, ◌<◌, ◌*◌, ◌/◌, ◌%◌, ◌^◌, true, false, List, slice_index}
 use Rattle.blocks.specs.Rows.{is_decided}
 
 -- the place of a slot in the nodes of a level on its way down
@@ -16,3 +16,10 @@ pub record IsFirstLane (a b : List ℕ) (from lane : ℕ) : Type 0 where
   pub ahead : from ≤ lane
   pub decided : AreDecidedLanes a b from lane
   pub stop : lane < 16 → is_decided (slice_index a lane) (slice_index b lane) ≡ false
+
+-- the first lane from one on in which the numbers of two blocks differ, or 16
+pub record IsFirstUnequalLane (a b : List ℕ) (from lane : ℕ) : Type 0 where
+  pub few : lane ≤ 16
+  pub ahead : from ≤ lane
+  pub equal : (k : ℕ) → from ≤ k → k < lane → slice_index a k ≡ slice_index b k
+  pub stop : lane < 16 → slice_index a lane ≢ slice_index b lane

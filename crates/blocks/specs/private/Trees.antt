@@ -109,6 +109,24 @@ IsFirstUndecidedBelow ns level id wanted from to (Some slot) = (from ≤ slot) �
     × (is_decided (number_at ns level id slot) (number_at ns level wanted slot) ≡ false)
     × ((k : ℕ) → from ≤ k → k < slot → IsSettledBelow ns level id wanted k)
 
+-- the numbers of a slot below two nodes of a level are equal
+abbrev pub IsEqualBelow : List Node → ℕ → ℕ → ℕ → ℕ → Type 0
+IsEqualBelow ns level id other slot = number_at ns level id slot ≡ number_at ns level other slot
+
+-- the numbers of all slots from one up to an end are equal, and the end is another unless they differ in the slot itself
+pub record IsEqualUpTo (ns : List Node) (level id other slot end : ℕ) : Type 0 where
+  pub ahead : slot ≤ end
+  pub within : end ≤ (slot / width level + 1) * width level
+  pub equal : (k : ℕ) → slot ≤ k → k < end → IsEqualBelow ns level id other k
+  pub stop : end ≡ slot → number_at ns level id slot ≢ number_at ns level other slot
+
+-- the first slot from one up to an end in which the numbers differ
+abbrev pub IsFirstUnequalBelow : List Node → ℕ → ℕ → ℕ → ℕ → ℕ → Option ℕ → Type 0
+IsFirstUnequalBelow ns level id other from to None = (k : ℕ) → from ≤ k → k < to → IsEqualBelow ns level id other k
+IsFirstUnequalBelow ns level id other from to (Some slot) = (from ≤ slot) × (slot < to)
+    × (number_at ns level id slot ≢ number_at ns level other slot)
+    × ((k : ℕ) → from ≤ k → k < slot → IsEqualBelow ns level id other k)
+
 -- ---- what is said to fit
 
 -- one node is said to fit another, and their numbers stand slot by slot below two nodes of a level

@@ -18,6 +18,7 @@ frames_of rows stacks flag frames = record {
   limit = stacks.limit;
   running = record { locals = rows.running; stack = stacks.running; flag = flag };
   declared = map (frame_at rows stacks) frames;
+  kept = rows.kept;
 }
 
 -- the parts of a declared frame are there

@@ -12,8 +12,8 @@ use Rattle.lower_calls.proofs.numbered_instructions.holds_among.Goals as goal
 pub all_leave-requires : goal.all_leave-requires
 all_leave-requires g c =
     let old = c.standard_numbers.new.types in
-    let new = c.new.new.numbers in
-    let kept = c.new.ensures.kept in
+    let new = c.new-2.new.numbers in
+    let kept = c.new-2.ensures.kept in
     let n = c.in_ok-n.n in
     record {
       table = c.in_ok-table.ensures.described;
@@ -21,5 +21,6 @@ all_leave-requires g c =
       objects = number_stays old new kept n.objects objects c.in_ok-n.ensures.objects;
       throwable = number_stays old new kept n.throwable (class throwable_name) c.in_ok-n.ensures.throwable;
       class = number_stays old new kept n.class (class (method_view c.in-Some.method).class) c.in_ok-n.ensures.class;
+      superclass = c.superclass.ensures new c.in_ok-table.ensures.described;
       returned = subst (λ r. IsNumberOf new None (option_map descriptor_type (option_map type_of r))) (sym c.in-None.is) tt;
     }

@@ -1,20 +1,14 @@
-use Rattle.std.proofs.Common.{rules, ◌≡◌, ◌++◌, ◌∙◌, take, drop, sym, ap, append_assoc, take-append-drop}
-use Rattle.std.proofs.KnownBytes.{Appends-trans}
+use Rattle.std.proofs.Common.{rules, ◌≡◌, take, drop, subst, take-append-drop}
+use Rattle.printing.specs.Writing.{Writes}
+use Rattle.printing.proofs.Writings.{then_writes}
 use Rattle.printing.proofs.print.put_bytes.Goals as goal
 
-pub loop-rest-preserved : goal.loop-rest-preserved
-loop-rest-preserved g c =
-    let (done, split, before) = c.loop-rest.invariant in
-    let rest = c.loop-rest.rest.now in
-    let n = c.in-Ok.n in
-    let behind : c.split_at.result.1.now ≡ drop n rest = search rules in (
-      done ++ take n rest,
-      split ∙ ap (λ l. done ++ l) (sym (take-append-drop n rest)) ∙ sym (append_assoc done (take n rest) (drop n rest)) ∙ ap (λ l. (done ++ take n rest) ++ l) (sym behind),
-      Appends-trans _ _ _ _ _ before c.in-Ok.ensures.bytes,
-    )
-
-pub returns-in-Err : goal.returns-in-Err
-returns-in-Err g c = search rules
-
-pub returns-in-Ok-eq0 : goal.returns-in-Ok-eq0
-returns-in-Ok-eq0 g c = search rules
+pub returns-in-Ok-2 : goal.returns-in-Ok-2
+returns-in-Ok-2 g c =
+    let held = g.W.Write.contents in
+    let put = c.put_rest in
+    let bytes = c.args.bytes.now in
+    let n = c.in-Ok-2.n in
+    let behind : c.split_at.result.1.now ≡ drop n bytes = search rules in
+    subst (λ t. Writes (held c.args.out.now) (held put.new.out) t put.result) (take-append-drop n bytes)
+    (then_writes _ _ _ (take n bytes) (drop n bytes) put.result c.in-Ok-2.ensures.bytes (subst (λ t. Writes (held c.write.new.self) (held put.new.out) t put.result) behind put.ensures))

@@ -1,4 +1,4 @@
-use Rattle.std.proofs.Common.{◌≡◌, Some, None, sym, ◌∙◌}
+use Rattle.std.proofs.Common.{◌≡◌, Some, None}
 use Rattle.std.specs.List.{flat_map}
 use Rattle.names.specs.Units.{unit_at, units_of}
 use Rattle.printing.proofs.RunLaws.{run_stops, run_written, unit_stops, unit_written, units_written}

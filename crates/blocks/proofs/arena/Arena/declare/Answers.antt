@@ -6,6 +6,6 @@ use Rattle.blocks.proofs.arena.Arena.declare.Goals as goal
 pub invariant_of-self-2 : goal.invariant_of-self-2
 invariant_of-self-2 c =
     let a = c.self.inside in
-    subst (λ n. IsArena a.nodes.items n a.root a.count c.push.new.self.items) (search rules)
-    (subst (IsArena a.nodes.items (length a.nodes.items) a.root a.count) (sym c.in_ok-push.ensures.items)
-    (declared_arena a.nodes.items a.own a.root a.count a.declared.items c.self.invariant))
+    subst (λ n. IsArena a.nodes.items n a.root a.kept a.count c.push.new.self.items) (search rules)
+    (subst (IsArena a.nodes.items (length a.nodes.items) a.root a.kept a.count) (sym c.in_ok-push.ensures.items)
+    (declared_arena a.nodes.items a.own a.root a.kept a.count a.declared.items c.self.invariant))

@@ -8,4 +8,4 @@ returns c =
     let a = c.self.inside in
     c.number.ensures
     ∙ ap (λ ns. number_at ns (level_of ns a.root) a.root c.args.slot) c.deref.ensures.value
-    ∙ sym (running_slot a.nodes.items a.root a.count a.declared.items c.args.self.now c.self.view_is c.args.slot c.requires)
+    ∙ sym (running_slot a.nodes.items a.root a.kept a.count a.declared.items c.args.self.now c.self.view_is c.args.slot c.requires)

@@ -11,5 +11,5 @@ returns c =
     c.number.ensures
     ∙ ap (λ ns. number_at ns (level_of ns c.root_of-root.result) c.root_of-root.result c.args.slot) c.deref-2.ensures.value
     ∙ ap (λ n. number_at a.nodes.items (level_of a.nodes.items n) n c.args.slot) root
-    ∙ sym (declared_slot a.nodes.items a.root a.count a.declared.items c.args.self.now c.self.view_is c.args.row c.args.slot
+    ∙ sym (declared_slot a.nodes.items a.root a.kept a.count a.declared.items c.args.self.now c.self.view_is c.args.row c.args.slot
     c.requires.row c.requires.slot)

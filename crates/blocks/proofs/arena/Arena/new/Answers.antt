@@ -5,14 +5,14 @@ use Rattle.blocks.proofs.arena.Arena.new.Goals as goal
 
 pub invariant_of-result : goal.invariant_of-result
 invariant_of-result c =
-    let top = c.top_of.ensures in
-    subst (IsArena c.in_ok-empty_nodes.field-0.items 4 c.top_of.result c.args.count) (sym c.new.ensures.items)
-    (empty_arena c.in_ok-empty_nodes.field-0.items c.top_of.result c.args.count top.low c.ranges.count.fits top.wide
+    let top = c.top_of-top.ensures in
+    subst (IsArena c.in_ok-empty_nodes.field-0.items 4 c.top_of-top.result c.top_of-top.result c.args.count) (sym c.new.ensures.items)
+    (empty_arena c.in_ok-empty_nodes.field-0.items c.top_of-top.result c.args.count top.low c.ranges.count.fits top.wide
     c.in_ok-empty_nodes.ensures)
 
 pub returns : goal.returns
 returns c =
-    let top = c.top_of.ensures in
-    ap (rows_of c.in_ok-empty_nodes.field-0.items c.top_of.result c.args.count) c.new.ensures.items
-    ∙ empty_rows c.in_ok-empty_nodes.field-0.items c.top_of.result c.args.count top.low c.ranges.count.fits top.wide
+    let top = c.top_of-top.ensures in
+    ap (rows_of c.in_ok-empty_nodes.field-0.items c.top_of-top.result c.top_of-top.result c.args.count) c.new.ensures.items
+    ∙ empty_rows c.in_ok-empty_nodes.field-0.items c.top_of-top.result c.args.count top.low c.ranges.count.fits top.wide
     c.in_ok-empty_nodes.ensures

@@ -14,9 +14,9 @@ invariant_of-self c =
     subst (λ ns. IsNoted ns c.note.new.nodes (level_of ns a.root) a.root wanted) c.deref_mut.ensures.value c.note.ensures in
     let long : length c.note.new.nodes ≡ a.nodes.len = told.only.long ∙ search rules in
     let kept = take a.nodes.len (c.note.new.nodes ++ drop (length c.note.new.nodes) a.nodes.items) in
-    subst (λ n. IsArena kept n a.root a.count a.declared.items) (search rules)
-    (subst (λ ns. IsArena ns (length a.nodes.items) a.root a.count a.declared.items) (sym (take_at c.note.new.nodes _ a.nodes.len long))
-    (noted_arena a.nodes.items c.note.new.nodes a.own a.root wanted a.count a.declared.items c.self.invariant told.only))
+    subst (λ n. IsArena kept n a.root a.kept a.count a.declared.items) (search rules)
+    (subst (λ ns. IsArena ns (length a.nodes.items) a.root a.kept a.count a.declared.items) (sym (take_at c.note.new.nodes _ a.nodes.len long))
+    (noted_arena a.nodes.items c.note.new.nodes a.own a.root wanted a.kept a.count a.declared.items c.self.invariant told.only))
 
 pub returns : goal.returns
 returns c =
@@ -25,12 +25,12 @@ returns c =
     let told : IsNoted a.nodes.items c.note.new.nodes (level_of a.nodes.items a.root) a.root wanted =
     subst (λ ns. IsNoted ns c.note.new.nodes (level_of ns a.root) a.root wanted) c.deref_mut.ensures.value c.note.ensures in
     let long : length c.note.new.nodes ≡ a.nodes.len = told.only.long ∙ search rules in
-    let few = declared_length a.nodes.items a.root a.count a.declared.items c.args.self.now c.self.view_is in
+    let few = declared_length a.nodes.items a.root a.kept a.count a.declared.items c.args.self.now c.self.view_is in
     let less = c.requires in
     let row : c.args.row < length a.declared.items = omega (arith, few, less) in
     let root : wanted ≡ get_or a.declared.items c.args.row 0 =
     c.root_of-wanted.ensures ∙ ap (λ ids. get_or ids c.args.row 0) c.deref.ensures.value in
-    subst (λ ns. IsSaidToFit c.args.self.now (rows_of ns a.root a.count a.declared.items) c.args.row)
+    subst (λ ns. IsSaidToFit c.args.self.now (rows_of ns a.root a.kept a.count a.declared.items) c.args.row)
     (sym (take_at c.note.new.nodes _ a.nodes.len long))
-    (noted_said a.nodes.items c.note.new.nodes a.own a.root wanted a.count a.declared.items c.self.invariant told.only
+    (noted_said a.nodes.items c.note.new.nodes a.own a.root wanted a.kept a.count a.declared.items c.self.invariant told.only
     c.args.row row root c.args.self.now c.self.view_is (elim (told.done) [ inl k ↦ inl (sym k) | inr k ↦ inr k ]))

@@ -6,11 +6,11 @@ use Rattle.blocks.proofs.arena.Arena.restart.Goals as goal
 pub invariant_of-self : goal.invariant_of-self
 invariant_of-self c =
     let top = c.top_of-top.ensures in
-    subst (IsArena c.clear.new.nodes.items 4 c.top_of-top.result c.args.count) (search rules)
+    subst (IsArena c.clear.new.nodes.items 4 c.top_of-top.result c.top_of-top.result c.args.count) (search rules)
     (empty_arena c.clear.new.nodes.items c.top_of-top.result c.args.count top.low c.ranges.count.fits top.wide c.clear.ensures)
 
 pub returns : goal.returns
 returns c =
     let top = c.top_of-top.ensures in
-    ap (rows_of c.clear.new.nodes.items c.top_of-top.result c.args.count) {y = []} (search rules)
+    ap (rows_of c.clear.new.nodes.items c.top_of-top.result c.top_of-top.result c.args.count) {y = []} (search rules)
     ∙ empty_rows c.clear.new.nodes.items c.top_of-top.result c.args.count top.low c.ranges.count.fits top.wide c.clear.ensures

@@ -7,7 +7,7 @@ use Rattle.blocks.proofs.arena.Arena.set.Goals as goal
 pub put-requires-clause-slot : goal.put-requires-clause-slot
 put-requires-clause-slot c =
     let a = c.self.inside in
-    let long = running_length a.nodes.items a.root a.count a.declared.items c.args.self.now c.self.view_is in
+    let long = running_length a.nodes.items a.root a.kept a.count a.declared.items c.args.self.now c.self.view_is in
     let reach = c.self.invariant.reach in
     let lt = c.requires in
     omega (arith, long, reach, lt)
@@ -16,23 +16,23 @@ pub returns-in_err-self-inside-clause-err : goal.returns-in_err-self-inside-clau
 returns-in_err-self-inside-clause-err c =
     let a = c.self.inside in
     let told = c.in_err-self-inside.ensures in
-    let same : rows_of c.put.new.nodes.items a.root a.count a.declared.items ≡ c.args.self.now =
-    kept_rows a.nodes.items c.put.new.nodes.items a.own a.root a.count a.declared.items c.self.invariant told.tree told.err ∙ c.self.view_is in
+    let same : rows_of c.put.new.nodes.items a.root a.kept a.count a.declared.items ≡ c.args.self.now =
+    kept_rows a.nodes.items c.put.new.nodes.items a.own a.root a.kept a.count a.declared.items c.self.invariant told.tree told.err ∙ c.self.view_is in
     search rules
 
 pub invariant_of-self-then-get-number : goal.invariant_of-self-then-get-number
 invariant_of-self-then-get-number c =
     let a = c.self.inside in
     let told = c.in_ok-self-inside.ensures in
-    let long = running_length a.nodes.items a.root a.count a.declared.items c.args.self.now c.self.view_is in
+    let long = running_length a.nodes.items a.root a.kept a.count a.declared.items c.args.self.now c.self.view_is in
     let lt = c.requires in
-    put_arena a.nodes.items c.put.new.nodes.items a.own a.root a.count c.args.slot c.args.number c.in_ok-self-inside.field-0 a.declared.items c.self.invariant told.tree told.ok (omega (arith, long, lt))
+    put_arena a.nodes.items c.put.new.nodes.items a.own a.root a.kept a.count c.args.slot c.args.number c.in_ok-self-inside.field-0 a.declared.items c.self.invariant told.tree told.ok (omega (arith, long, lt))
 
 pub returns-in_ok-self-inside-clause-ok : goal.returns-in_ok-self-inside-clause-ok
 returns-in_ok-self-inside-clause-ok c =
     let a = c.self.inside in
     let told = c.in_ok-self-inside.ensures in
-    let long = running_length a.nodes.items a.root a.count a.declared.items c.args.self.now c.self.view_is in
+    let long = running_length a.nodes.items a.root a.kept a.count a.declared.items c.args.self.now c.self.view_is in
     let lt = c.requires in
-    put_rows a.nodes.items c.put.new.nodes.items a.own a.root a.count c.args.slot c.args.number c.in_ok-self-inside.field-0 a.declared.items c.self.invariant told.tree told.ok (omega (arith, long, lt))
+    put_rows a.nodes.items c.put.new.nodes.items a.own a.root a.kept a.count c.args.slot c.args.number c.in_ok-self-inside.field-0 a.declared.items c.self.invariant told.tree told.ok (omega (arith, long, lt))
     ∙ ap (λ (r : Rows). let x : Rows = record r { running = set r.running c.args.slot c.args.number } in x) c.self.view_is

@@ -1,4 +1,4 @@
-use Rattle.std.proofs.Common.{ℕ, List, [], ◌∷◌, codes, map, ap, subst}
+use Rattle.std.proofs.Common.{ℕ, List, [], ◌∷◌, codes, ap, subst}
 use Rattle.classfile.specs.Views.{handler_view}
 use Rattle.printing.specs.Classes.{catch_string}
 use Rattle.printing.specs.Json.{strings, fields_then}

@@ -1,6 +1,6 @@
 use Rattle.std.proofs.Common.{◌≡◌, ◌∙◌, ℕ, List, ◌∷◌, map, take, ap, sym, subst}
 use Rattle.std.proofs.lemmas.List.{reverse-reverse}
-use Rattle.frames.specs.VerificationType.{VerificationType, type_of}
+use Rattle.frames.specs.VerificationType.{type_of}
 use Rattle.printing.specs.Writing.{Writes}
 use Rattle.printing.specs.Frames.{type_text, in_use, type_strings, flag_fields}
 use Rattle.printing.specs.Json.{strings, fields_then}

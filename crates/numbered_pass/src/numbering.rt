@@ -1,0 +1,91 @@
+//! The numbers that types get before the code of a class's methods is judged.
+ghost use Rattle.std.specs.Prelude.{map, option_map, IfOk};
+ghost use Rattle.frames.specs.VerificationType.{type_of};
+ghost use Rattle.type_numbers.specs.Numbers.{Extends, IsNumberOf};
+ghost use Rattle.type_numbers.specs.MethodNumbers.{AreNumbers};
+ghost use Rattle.numbered_pass.specs.Numbering.{AreClassNumbers};
+
+use frames::VType;
+use hierarchy::Classes;
+use names::{Base, OBJECT, THROWABLE};
+use std::alloc::{AllocError, Global};
+use std::hash::BuildHasher;
+use type_numbers::TypeNumbers;
+
+/// The numbers of the types that the rules of the instructions of all methods of a class ask for.
+#[derive(Clone, Copy)]
+pub struct ClassNumbers {
+    /// The class `Object`.
+    pub object: u32,
+    /// The type of arrays of the class `Object`.
+    pub objects: u32,
+    /// The class `Throwable`.
+    pub throwable: u32,
+    /// The class itself.
+    pub class: u32,
+    /// Its direct superclass; none of the class `Object`.
+    pub superclass: Option<u32>,
+}
+
+/// The number of a type, if there is one. The only refusal is 1, where memory runs out.
+pub fn number_of<'a, C: Classes, S: BuildHasher>(
+    vtype: Option<VType<'a>>,
+    types: &mut TypeNumbers<'_, 'a, C, S>,
+) -> Result<Option<u32>, AllocError>
+    ensures kept { Extends types.old types.new }
+    ensures given { IfOk result (λ n. IsNumberOf types.new n (option_map type_of vtype.entry)) }
+{
+    let Some(vtype) = vtype else {
+        return Ok(None);
+    };
+    let number = types.number(&vtype)?;
+    Ok(Some(number))
+}
+
+/// The numbers of types, one for each, such as those of a method's receiver and parameters. The only refusal is 1,
+/// where memory runs out.
+pub fn numbers_of<'a, C: Classes, S: BuildHasher>(
+    alloc: Global,
+    vtypes: &[VType<'a>],
+    types: &mut TypeNumbers<'_, 'a, C, S>,
+) -> Result<Vec<u32>, AllocError>
+    ensures kept { Extends types.old types.new }
+    ensures given { IfOk result (λ ns. AreNumbers types.new ns.items (map type_of vtypes.now)) }
+{
+    let mut numbers = Vec::with_capacity(alloc, vtypes.len())?;
+    for vtype in vtypes {
+        let number = types.number(vtype)?;
+        numbers.push(number)?;
+    }
+    Ok(numbers)
+}
+
+impl ClassNumbers {
+    /// The numbers for a class of a name, with a direct superclass of a name, if it has one. The only refusal is 1,
+    /// where memory runs out.
+    pub fn new<'a, C: Classes, S: BuildHasher>(
+        class: &'a [u8],
+        superclass: Option<&'a [u8]>,
+        types: &mut TypeNumbers<'_, 'a, C, S>,
+    ) -> Result<ClassNumbers, AllocError>
+        ensures kept { Extends types.old types.new }
+        ensures given { IfOk result
+            (AreClassNumbers types.new class.now (option_map (λ name. name.now) superclass.entry)) }
+    {
+        let object = types.number(&VType::Class(OBJECT))?;
+        let objects = types.number(&VType::Array {
+            dims: 1,
+            base: Base::Class(OBJECT),
+        })?;
+        let throwable = types.number(&VType::Class(THROWABLE))?;
+        let own = types.number(&VType::Class(class))?;
+        let superclass = number_of(superclass.map(VType::Class), types)?;
+        Ok(ClassNumbers {
+            object,
+            objects,
+            throwable,
+            class: own,
+            superclass,
+        })
+    }
+}
