@@ -8,7 +8,6 @@ use insn::StackOperator;
 use method_frames::MethodFrames;
 use names::OBJECT;
 use std::alloc::{AllocError, Global};
-use std::hash::BuildHasher;
 use std::test::*;
 use type_numbers::TypeNumbers;
 
@@ -21,8 +20,8 @@ struct Numbers {
 }
 
 /// Gives numbers to an int and to two types.
-fn given_numbers<'n, C: Classes, S: BuildHasher + Drop>(
-    types: &mut TypeNumbers<'_, 'n, C, S>,
+fn given_numbers<'n, C: Classes>(
+    types: &mut TypeNumbers<'_, 'n, C>,
     pair: (VType<'n>, VType<'n>),
 ) -> Result<Numbers, AllocError>
     ensures int { IfOk result (λ n. IsGiven types.new n.int) }
@@ -36,8 +35,8 @@ fn given_numbers<'n, C: Classes, S: BuildHasher + Drop>(
 }
 
 /// Gives a local variable of the running frame a type, if it has that local.
-fn put<C: Classes, S: BuildHasher>(
-    frames: &mut MethodFrames<'_, '_, '_, C, S>,
+fn put<C: Classes>(
+    frames: &mut MethodFrames<'_, '_, '_, C>,
     place: usize,
     number: u32,
 ) -> Result<(), AllocError>
@@ -52,8 +51,8 @@ fn put<C: Classes, S: BuildHasher>(
 }
 
 /// Makes all local variables of the running frame ints, but for one.
-fn fill<C: Classes, S: BuildHasher>(
-    frames: &mut MethodFrames<'_, '_, '_, C, S>,
+fn fill<C: Classes>(
+    frames: &mut MethodFrames<'_, '_, '_, C>,
     int: u32,
     other: u32,
     place: usize,
@@ -71,8 +70,8 @@ fn fill<C: Classes, S: BuildHasher>(
 }
 
 /// Puts so many ints on the stack of the running frame in place of what it holds, but for one item.
-fn stand<C: Classes, S: BuildHasher>(
-    frames: &mut MethodFrames<'_, '_, '_, C, S>,
+fn stand<C: Classes>(
+    frames: &mut MethodFrames<'_, '_, '_, C>,
     int: u32,
     other: u32,
     place: usize,
@@ -94,9 +93,9 @@ fn stand<C: Classes, S: BuildHasher>(
 /// The answers of the running frame to one that was declared, when they are first compared and when they are again.
 /// Each has so many locals and so many items, ints but for one place, counted from local 0 up and then from the bottom
 /// item up.
-fn answers<'n, C: Classes, S: BuildHasher>(
+fn answers<'n, C: Classes>(
     alloc: Global,
-    types: &TypeNumbers<'_, 'n, C, S>,
+    types: &TypeNumbers<'_, 'n, C>,
     n: Numbers,
     locals: u16,
     items: u16,
@@ -149,7 +148,7 @@ fn agree_at<C: Classes>(
     pair: (VType<'_>, VType<'_>),
 ) -> Result<bool, AllocError> {
     let (locals, items) = sizes;
-    let mut types = TypeNumbers::new(alloc, classes, hasher());
+    let mut types = TypeNumbers::new(alloc, classes);
     let n = given_numbers(&mut types, pair)?;
     let from = ints_but(alloc, locals, items, place, pair.0)?;
     let to = ints_but(alloc, locals, items, place, pair.1)?;
@@ -198,11 +197,11 @@ fn all_agree<C: Classes>(alloc: Global, classes: &C) -> Result<bool, AllocError>
 }
 
 /// Frames of which one is declared at 7: a long at local 18 of 20, an int above a long on the stack, and the flag.
-fn declared_at_7<'t, 'c, 'n, C: Classes, S: BuildHasher>(
+fn declared_at_7<'t, 'c, 'n, C: Classes>(
     alloc: Global,
-    types: &'t TypeNumbers<'c, 'n, C, S>,
+    types: &'t TypeNumbers<'c, 'n, C>,
     n: Numbers,
-) -> Result<MethodFrames<'t, 'c, 'n, C, S>, AllocError>
+) -> Result<MethodFrames<'t, 'c, 'n, C>, AllocError>
     requires int { IsGiven types.now n.int }
     requires ours { IsGiven types.now n.ours }
     ensures types { IfOk result (λ x. x.types ≡ types.now) }
@@ -217,10 +216,7 @@ fn declared_at_7<'t, 'c, 'n, C: Classes, S: BuildHasher>(
 }
 
 /// Whether the running frame is the one that is declared there.
-fn is_as_declared<C: Classes, S: BuildHasher>(
-    frames: &MethodFrames<'_, '_, '_, C, S>,
-    n: Numbers,
-) -> bool {
+fn is_as_declared<C: Classes>(frames: &MethodFrames<'_, '_, '_, C>, n: Numbers) -> bool {
     let locals = frames.local(18) == n.ours && frames.local(20) == 0;
     let items = [frames.item(0), frames.item(1), frames.item(2)];
     let size = frames.depth() == 2 && frames.has_units(3) && !frames.has_units(4);
@@ -229,7 +225,7 @@ fn is_as_declared<C: Classes, S: BuildHasher>(
 
 /// Whether a frame that was declared is found, and the running one becomes it, whatever it was before.
 fn is_taken<C: Classes>(alloc: Global, classes: &C) -> Result<bool, AllocError> {
-    let mut types = TypeNumbers::new(alloc, classes, hasher());
+    let mut types = TypeNumbers::new(alloc, classes);
     let n = given_numbers(&mut types, (VType::Long, A))?;
     let mut frames = declared_at_7(alloc, &types, n)?;
     let found = frames.find(7) == Some(0) && frames.find(8).is_none();
@@ -244,7 +240,7 @@ fn is_taken<C: Classes>(alloc: Global, classes: &C) -> Result<bool, AllocError> 
 
 /// Whether items come off from the top down.
 fn are_popped<C: Classes>(alloc: Global, classes: &C) -> Result<bool, AllocError> {
-    let mut types = TypeNumbers::new(alloc, classes, hasher());
+    let mut types = TypeNumbers::new(alloc, classes);
     let n = given_numbers(&mut types, (VType::Long, A))?;
     let mut frames = declared_at_7(alloc, &types, n)?;
     let items = [frames.pop(), frames.pop(), frames.pop()];
@@ -253,7 +249,7 @@ fn are_popped<C: Classes>(alloc: Global, classes: &C) -> Result<bool, AllocError
 
 /// Whether the flag of an uninitialized `this` is compared.
 fn flags_count<C: Classes>(alloc: Global, classes: &C) -> Result<bool, AllocError> {
-    let types = TypeNumbers::new(alloc, classes, hasher());
+    let types = TypeNumbers::new(alloc, classes);
     let mut frames = MethodFrames::new(alloc, &types, 0, 0, false)?;
     let declared = frames.declare(0)?;
     let without = frames.answer(declared)?;
@@ -262,9 +258,7 @@ fn flags_count<C: Classes>(alloc: Global, classes: &C) -> Result<bool, AllocErro
 }
 
 /// Swaps the two items at the top, where there are two.
-fn swap<C: Classes, S: BuildHasher>(
-    frames: &mut MethodFrames<'_, '_, '_, C, S>,
-) -> Result<(), AllocError>
+fn swap<C: Classes>(frames: &mut MethodFrames<'_, '_, '_, C>) -> Result<(), AllocError>
     ensures { frames.new.declared ≡ frames.old.declared }
 {
     for form in StackOperator::Swap.forms() {
@@ -277,7 +271,7 @@ fn swap<C: Classes, S: BuildHasher>(
 
 /// Whether items are moved, and those that were declared before stay.
 fn is_moved<C: Classes>(alloc: Global, classes: &C) -> Result<bool, AllocError> {
-    let mut types = TypeNumbers::new(alloc, classes, hasher());
+    let mut types = TypeNumbers::new(alloc, classes);
     let n = given_numbers(&mut types, (VType::Long, A))?;
     let mut frames = declared_at_7(alloc, &types, n)?;
     swap(&mut frames)?;
@@ -287,7 +281,7 @@ fn is_moved<C: Classes>(alloc: Global, classes: &C) -> Result<bool, AllocError> 
 
 /// Whether an object that `new` made is forgotten in the locals, and found on the stack.
 fn is_forgotten<C: Classes>(alloc: Global, classes: &C) -> Result<bool, AllocError> {
-    let mut types = TypeNumbers::new(alloc, classes, hasher());
+    let mut types = TypeNumbers::new(alloc, classes);
     let n = given_numbers(&mut types, (VType::Uninit(9), A))?;
     let mut frames = declared_at_7(alloc, &types, n)?;
     put(&mut frames, 3, n.ours)?;
@@ -297,11 +291,11 @@ fn is_forgotten<C: Classes>(alloc: Global, classes: &C) -> Result<bool, AllocErr
 }
 
 /// Frames of which one is declared at 5, with one item on the stack and its type in local 1 of 2.
-fn caught_at_5<'t, 'c, 'n, C: Classes, S: BuildHasher>(
+fn caught_at_5<'t, 'c, 'n, C: Classes>(
     alloc: Global,
-    types: &'t TypeNumbers<'c, 'n, C, S>,
+    types: &'t TypeNumbers<'c, 'n, C>,
     n: Numbers,
-) -> Result<MethodFrames<'t, 'c, 'n, C, S>, AllocError>
+) -> Result<MethodFrames<'t, 'c, 'n, C>, AllocError>
     requires theirs { IsGiven types.now n.theirs }
     ensures types { IfOk result (λ x. x.types ≡ types.now) }
     ensures declared { IfOk result (λ x. length x.declared ≡ 1) }
@@ -315,7 +309,7 @@ fn caught_at_5<'t, 'c, 'n, C: Classes, S: BuildHasher>(
 
 /// Whether an exception is caught by a frame with one item that takes it, and a local of that frame takes its type.
 fn is_caught<C: Classes>(alloc: Global, classes: &C) -> Result<bool, AllocError> {
-    let mut types = TypeNumbers::new(alloc, classes, hasher());
+    let mut types = TypeNumbers::new(alloc, classes);
     let n = given_numbers(&mut types, (A, VType::Class(OBJECT)))?;
     let mut frames = caught_at_5(alloc, &types, n)?;
     let caught = frames.answer_caught(0, n.ours) == Answer::Yes;
@@ -326,7 +320,7 @@ fn is_caught<C: Classes>(alloc: Global, classes: &C) -> Result<bool, AllocError>
 
 /// Whether it is told which local variable changed since they were kept, and that a frame has the locals that it has.
 fn changes_are_told<C: Classes>(alloc: Global, classes: &C) -> Result<bool, AllocError> {
-    let mut types = TypeNumbers::new(alloc, classes, hasher());
+    let mut types = TypeNumbers::new(alloc, classes);
     let n = given_numbers(&mut types, (VType::Uninit(9), A))?;
     let mut frames = declared_at_7(alloc, &types, n)?;
     let alike = frames.first_unequal(0, 0).is_none() && frames.count() == 1;
@@ -340,7 +334,7 @@ fn changes_are_told<C: Classes>(alloc: Global, classes: &C) -> Result<bool, Allo
 
 /// Whether frames begin anew for another method.
 fn begins_anew<C: Classes>(alloc: Global, classes: &C) -> Result<bool, AllocError> {
-    let mut types = TypeNumbers::new(alloc, classes, hasher());
+    let mut types = TypeNumbers::new(alloc, classes);
     let n = given_numbers(&mut types, (VType::Uninit(9), A))?;
     let mut frames = declared_at_7(alloc, &types, n)?;
     frames.restart(30, 1, false);

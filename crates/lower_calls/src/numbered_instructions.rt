@@ -20,7 +20,6 @@ use names::{Base, OBJECT, Primitive, THROWABLE};
 use numbered_rules::{Body, INT, LONG, NULL, NamedFacts, RuleNumbers, run, run_plain, superclass};
 use rules::{ClassConstants, Reason, is_plain, own_class};
 use std::alloc::{AllocError, Global};
-use std::hash::BuildHasher;
 use std::test::*;
 use type_numbers::{ConstantTable, TypeNumbers};
 
@@ -190,9 +189,9 @@ struct Standard {
 }
 
 /// Gives these types their numbers.
-fn standard_numbers<'n, C: Classes, S: BuildHasher + Drop>(
+fn standard_numbers<'n, C: Classes>(
     method: &CodeMethod<'_, 'n>,
-    types: &mut TypeNumbers<'_, 'n, C, S>,
+    types: &mut TypeNumbers<'_, 'n, C>,
 ) -> Result<Standard, AllocError>
     ensures object { IfOk result (λ n. IsNumber types.new n.object (class object_name)) }
     ensures objects { IfOk result (λ n. IsNumber types.new n.objects objects) }
@@ -215,11 +214,11 @@ fn standard_numbers<'n, C: Classes, S: BuildHasher + Drop>(
 }
 
 /// Runs plain instructions one after the other; 60 where one is not plain.
-fn run_all<'n, C: Classes, S: BuildHasher>(
+fn run_all<'n, C: Classes>(
     method: &CodeMethod<'_, '_>,
     acts: &[Act<'_>],
     numbers: &RuleNumbers<'_>,
-    frames: &mut MethodFrames<'_, '_, 'n, C, S>,
+    frames: &mut MethodFrames<'_, '_, 'n, C>,
 ) -> Result<(), Reason<'n>>
     requires locals { length frames.old.running.locals ≡ method.now.code.now.max_locals }
     requires numbers { AreRuleNumbers frames.old.types (method_view method.now) numbers.now }
@@ -235,12 +234,12 @@ fn run_all<'n, C: Classes, S: BuildHasher>(
 }
 
 /// The number of the type that plain instructions leave on top of an empty stack.
-fn plain_leaves<'n, C: Classes, S: BuildHasher>(
+fn plain_leaves<'n, C: Classes>(
     alloc: Global,
     method: &CodeMethod<'_, 'n>,
     acts: &[Act<'_>],
     numbers: &RuleNumbers<'_>,
-    types: &TypeNumbers<'_, 'n, C, S>,
+    types: &TypeNumbers<'_, 'n, C>,
 ) -> Result<Option<u32>, Reason<'n>>
     requires { AreRuleNumbers types.now (method_view method.now) numbers.now }
 {
@@ -251,12 +250,12 @@ fn plain_leaves<'n, C: Classes, S: BuildHasher>(
 }
 
 /// Runs an instruction at an offset.
-fn run_one<'n, C: Classes, S: BuildHasher>(
+fn run_one<'n, C: Classes>(
     constants: &mut ClassConstants<'_, '_, 'n, C>,
     body: &Body<'_, 'n>,
     at: u16,
     act: &Act<'n>,
-    frames: &mut MethodFrames<'_, '_, 'n, C, S>,
+    frames: &mut MethodFrames<'_, '_, 'n, C>,
 ) -> Result<(), Reason<'n>>
     requires class { constants.old.members.class ≡ body.now.method.now.class.now }
     requires locals { length frames.old.running.locals ≡ body.now.method.now.code.now.max_locals }
@@ -273,12 +272,12 @@ fn run_one<'n, C: Classes, S: BuildHasher>(
 }
 
 /// The number of the type that an instruction at 0 leaves on top of the stack, behind plain ones.
-fn leaves<'n, C: Classes, S: BuildHasher>(
+fn leaves<'n, C: Classes>(
     constants: &mut ClassConstants<'_, '_, 'n, C>,
     body: &Body<'_, 'n>,
     acts: &[Act<'_>],
     act: Act<'n>,
-    frames: &mut MethodFrames<'_, '_, 'n, C, S>,
+    frames: &mut MethodFrames<'_, '_, 'n, C>,
 ) -> Result<Option<u32>, Reason<'n>>
     requires class { constants.old.members.class ≡ body.now.method.now.class.now }
     requires locals { length frames.old.running.locals ≡ body.now.method.now.code.now.max_locals }
@@ -291,10 +290,10 @@ fn leaves<'n, C: Classes, S: BuildHasher>(
 
 /// The number of the type of the object beneath the one that a constructor was called on: `new` makes it at 0, and
 /// `dup` copies it.
-fn construction_leaves<'n, C: Classes, S: BuildHasher>(
+fn construction_leaves<'n, C: Classes>(
     constants: &mut ClassConstants<'_, '_, 'n, C>,
     body: &Body<'_, 'n>,
-    frames: &mut MethodFrames<'_, '_, 'n, C, S>,
+    frames: &mut MethodFrames<'_, '_, 'n, C>,
 ) -> Result<Option<u32>, Reason<'n>>
     requires class { constants.old.members.class ≡ body.now.method.now.class.now }
     requires locals { length frames.old.running.locals ≡ body.now.method.now.code.now.max_locals }
@@ -313,11 +312,11 @@ fn construction_leaves<'n, C: Classes, S: BuildHasher>(
 }
 
 /// Whether each instruction leaves what it should, and no more memory is taken than there is.
-fn all_leave<'n, C: Classes, S: BuildHasher>(
+fn all_leave<'n, C: Classes>(
     alloc: Global,
     body: &Body<'_, 'n>,
     classes: &C,
-    types: &TypeNumbers<'_, 'n, C, S>,
+    types: &TypeNumbers<'_, 'n, C>,
 ) -> Result<bool, Reason<'n>>
     requires { AreRuleNumbers types.now (method_view body.now.method.now) body.now.numbers }
 {
@@ -355,7 +354,7 @@ fn holds_among<'n, C: Classes>(
     let Ok(starts) = CodeStarts::new(alloc, method.code.code) else {
         return Ok(false);
     };
-    let mut types = TypeNumbers::new(alloc, classes, hasher());
+    let mut types = TypeNumbers::new(alloc, classes);
     let n = standard_numbers(&method, &mut types)?;
     let table = ConstantTable::new(alloc, &method.class.constant_pool, &mut types)?;
     let None = method.result_type else {

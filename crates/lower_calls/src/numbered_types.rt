@@ -5,7 +5,6 @@ use layout::{Cursor, Part};
 use names::{Base, OBJECT, Primitive};
 use pool::Pool;
 use std::alloc::{AllocError, Global};
-use std::hash::BuildHasher;
 use std::test::*;
 use type_numbers::{
     ConstantTable, DescriptorNumbers, MethodNumbers, NamedConstant, TypeNumbers, laws,
@@ -50,8 +49,8 @@ fn numbered<'a>() -> [(VType<'a>, u32); 20] {
 }
 
 /// Whether a type gets this number, which stands for the type.
-fn is_numbered<'n, C: Classes, S: BuildHasher + Drop>(
-    numbers: &mut TypeNumbers<'_, 'n, C, S>,
+fn is_numbered<'n, C: Classes>(
+    numbers: &mut TypeNumbers<'_, 'n, C>,
     vtype: &VType<'n>,
     expected: u32,
 ) -> Result<bool, AllocError> {
@@ -60,8 +59,8 @@ fn is_numbered<'n, C: Classes, S: BuildHasher + Drop>(
 }
 
 /// Whether a type compared with itself by its number is assignable.
-fn is_its_own<'n, C: Classes, S: BuildHasher + Drop>(
-    numbers: &mut TypeNumbers<'_, 'n, C, S>,
+fn is_its_own<'n, C: Classes>(
+    numbers: &mut TypeNumbers<'_, 'n, C>,
     vtype: &VType<'n>,
 ) -> Result<bool, AllocError> {
     let number = numbers.number(vtype)?;
@@ -70,7 +69,7 @@ fn is_its_own<'n, C: Classes, S: BuildHasher + Drop>(
 
 /// Whether types get their numbers, each of which stands for its type.
 fn agree<C: Classes>(alloc: Global, classes: &C) -> Result<bool, AllocError> {
-    let mut numbers = TypeNumbers::new(alloc, classes, hasher());
+    let mut numbers = TypeNumbers::new(alloc, classes);
     let mut fine = true;
     for (vtype, number) in &numbered() {
         fine &= is_numbered(&mut numbers, vtype, *number)? && is_its_own(&mut numbers, vtype)?;
@@ -195,10 +194,10 @@ fn are_constants(table: &ConstantTable) -> bool {
 }
 
 /// Whether the table of that pool has these constants, and the numbers of the types of its methods.
-fn are_tabled<'n, C: Classes, S: BuildHasher + Drop>(
+fn are_tabled<'n, C: Classes>(
     alloc: Global,
     pool: &Pool<'n>,
-    numbers: &mut TypeNumbers<'_, 'n, C, S>,
+    numbers: &mut TypeNumbers<'_, 'n, C>,
 ) -> Result<bool, AllocError> {
     let table = ConstantTable::new(alloc, pool, numbers)?;
     let NamedConstant::Method { types, .. } = table.get(9) else {
@@ -209,10 +208,10 @@ fn are_tabled<'n, C: Classes, S: BuildHasher + Drop>(
 
 /// Whether the text at 7 of that pool is the descriptor of a method that takes a java/lang/String and an int, and is
 /// read once, however often it is asked.
-fn is_method<'n, C: Classes, S: BuildHasher + Drop>(
+fn is_method<'n, C: Classes>(
     alloc: Global,
     pool: &Pool<'n>,
-    numbers: &mut TypeNumbers<'_, 'n, C, S>,
+    numbers: &mut TypeNumbers<'_, 'n, C>,
 ) -> Result<bool, AllocError> {
     let mut descriptors = DescriptorNumbers::new(alloc, pool)?;
     let first = descriptors.types(pool, 7, numbers)?;
@@ -226,10 +225,10 @@ fn is_method<'n, C: Classes, S: BuildHasher + Drop>(
 }
 
 /// Whether the text at 4 of that pool is not a descriptor of a method, and no text is at 5.
-fn are_no_methods<'n, C: Classes, S: BuildHasher + Drop>(
+fn are_no_methods<'n, C: Classes>(
     alloc: Global,
     pool: &Pool<'n>,
-    numbers: &mut TypeNumbers<'_, 'n, C, S>,
+    numbers: &mut TypeNumbers<'_, 'n, C>,
 ) -> Result<bool, AllocError> {
     let mut descriptors = DescriptorNumbers::new(alloc, pool)?;
     let text = descriptors.types(pool, 4, numbers)?;
@@ -246,7 +245,7 @@ fn are_numbered<C: Classes>(
     let Ok(pool) = Pool::take(alloc, &mut Cursor::new(&NAMED)) else {
         return Ok(may_fail);
     };
-    let mut numbers = TypeNumbers::new(alloc, classes, hasher());
+    let mut numbers = TypeNumbers::new(alloc, classes);
     let constants = are_tabled(alloc, &pool, &mut numbers)?;
     let method = is_method(alloc, &pool, &mut numbers)?;
     Ok(constants && method && are_no_methods(alloc, &pool, &mut numbers)?)

@@ -21,7 +21,6 @@ use crate::method::MethodFrames;
 use frames::{FrameFault, Limits, MapEntry, RefusedEntry, Sizes, Starts, TypeInfo, judge_entry};
 use hierarchy::Classes;
 use std::alloc::{AllocError, Global};
-use std::hash::BuildHasher;
 use type_numbers::{ConstantTable, NamedConstant, uninit_number};
 
 /// The number of the type that an entry gives; that of top where it names no class.
@@ -95,10 +94,10 @@ fn stack_units(entry: &MapEntry) -> usize
 }
 
 /// Puts a local behind the others, in the running frame too.
-fn append<C: Classes, S: BuildHasher>(
+fn append<C: Classes>(
     number: u32,
     locals: &mut MapLocals,
-    frames: &mut MethodFrames<'_, '_, '_, C, S>,
+    frames: &mut MethodFrames<'_, '_, '_, C>,
 ) -> Result<(), AllocError>
     requires given { IsGiven frames.old.types number }
     requires fits { units_of (types_by frames.old.types locals.old) + width_of (type_by frames.old.types number)
@@ -113,10 +112,10 @@ fn append<C: Classes, S: BuildHasher>(
 }
 
 /// Takes the last locals off until so many are left, in the running frame too.
-fn chop<C: Classes, S: BuildHasher>(
+fn chop<C: Classes>(
     left: usize,
     locals: &mut MapLocals,
-    frames: &mut MethodFrames<'_, '_, '_, C, S>,
+    frames: &mut MethodFrames<'_, '_, '_, C>,
 ) -> Result<(), AllocError>
     requires laid { IsLaidOut frames.old locals.old }
     ensures rest { AreRewritten frames.old frames.new }
@@ -147,10 +146,10 @@ fn numbers_given(
 }
 
 /// Puts locals behind the others, in the running frame too.
-fn append_all<C: Classes, S: BuildHasher>(
+fn append_all<C: Classes>(
     numbers: &[u32],
     locals: &mut MapLocals,
-    frames: &mut MethodFrames<'_, '_, '_, C, S>,
+    frames: &mut MethodFrames<'_, '_, '_, C>,
 ) -> Result<(), AllocError>
     requires given { AreGiven frames.old.types numbers.now }
     requires fits { units_of (types_by frames.old.types (locals.old ++ numbers.now)) ≤ length frames.old.running.locals }
@@ -181,10 +180,10 @@ fn common(numbers: &[u32], locals: &MapLocals) -> usize
 }
 
 /// The locals become others, in the running frame too. Those that stay from 0 up are not written.
-fn change_all<C: Classes, S: BuildHasher>(
+fn change_all<C: Classes>(
     numbers: &[u32],
     locals: &mut MapLocals,
-    frames: &mut MethodFrames<'_, '_, '_, C, S>,
+    frames: &mut MethodFrames<'_, '_, '_, C>,
 ) -> Result<(), AllocError>
     requires given { AreGiven frames.old.types numbers.now }
     requires fits { units_of (types_by frames.old.types numbers.now) ≤ length frames.old.running.locals }
@@ -199,12 +198,12 @@ fn change_all<C: Classes, S: BuildHasher>(
 }
 
 /// Writes the locals of an entry, in the running frame too. Those that it chops are gone already.
-fn write_locals<C: Classes, S: BuildHasher>(
+fn write_locals<C: Classes>(
     alloc: Global,
     entry: &MapEntry,
     table: &ConstantTable,
     locals: &mut MapLocals,
-    frames: &mut MethodFrames<'_, '_, '_, C, S>,
+    frames: &mut MethodFrames<'_, '_, '_, C>,
 ) -> Result<(), AllocError>
     requires table { (pool : List Entry) × IsTable frames.old.types pool table.now }
     requires fits { (pool : List Entry) → units_of (locals_behind pool (entry_of entry.now)
@@ -230,9 +229,9 @@ fn write_locals<C: Classes, S: BuildHasher>(
 }
 
 /// Pushes types on the running stack, the last of them on top.
-fn push_all<C: Classes, S: BuildHasher>(
+fn push_all<C: Classes>(
     numbers: &[u32],
-    frames: &mut MethodFrames<'_, '_, '_, C, S>,
+    frames: &mut MethodFrames<'_, '_, '_, C>,
 ) -> Result<(), AllocError>
     requires given { AreGiven frames.old.types numbers.now }
     ensures rest { IsRestacked frames.old frames.new }
@@ -246,11 +245,11 @@ fn push_all<C: Classes, S: BuildHasher>(
 }
 
 /// The running stack becomes that of an entry.
-fn write_stack<C: Classes, S: BuildHasher>(
+fn write_stack<C: Classes>(
     alloc: Global,
     entry: &MapEntry,
     table: &ConstantTable,
-    frames: &mut MethodFrames<'_, '_, '_, C, S>,
+    frames: &mut MethodFrames<'_, '_, '_, C>,
 ) -> Result<(), AllocError>
     requires table { (pool : List Entry) × IsTable frames.old.types pool table.now }
     ensures rest { IsRestacked frames.old frames.new }
@@ -271,10 +270,10 @@ fn write_stack<C: Classes, S: BuildHasher>(
 }
 
 /// Takes the locals off that an entry chops, as far as there are so many.
-fn write_chop<C: Classes, S: BuildHasher>(
+fn write_chop<C: Classes>(
     entry: &MapEntry,
     locals: &mut MapLocals,
-    frames: &mut MethodFrames<'_, '_, '_, C, S>,
+    frames: &mut MethodFrames<'_, '_, '_, C>,
 ) -> Result<(), AllocError>
     requires laid { IsLaidOut frames.old locals.old }
     ensures rest { AreRewritten frames.old frames.new }
@@ -293,14 +292,14 @@ fn write_chop<C: Classes, S: BuildHasher>(
 
 /// Declares the frame of an entry at an offset in bytes, behind locals which become those of the entry; or tells its
 /// least fault. The running frame becomes the one that is declared.
-fn declare_one<St: Starts, C: Classes, S: BuildHasher>(
+fn declare_one<St: Starts, C: Classes>(
     alloc: Global,
     entry: &MapEntry,
     at: u32,
     limits: &Limits<'_, '_, St>,
     table: &ConstantTable,
     locals: &mut MapLocals,
-    frames: &mut MethodFrames<'_, '_, '_, C, S>,
+    frames: &mut MethodFrames<'_, '_, '_, C>,
 ) -> Result<Option<FrameFault>, AllocError>
     requires table { IsTable frames.old.types limits.now.pool.now table.now }
     requires max_locals { limits.now.max_locals ≡ length frames.old.running.locals }
@@ -346,13 +345,13 @@ fn delta(entry: &MapEntry) -> u16
 }
 
 /// Declares the frames of entries behind these locals, or tells the first entry that is refused.
-fn declare_all<St: Starts, C: Classes, S: BuildHasher>(
+fn declare_all<St: Starts, C: Classes>(
     alloc: Global,
     entries: &[MapEntry],
     limits: &Limits<'_, '_, St>,
     table: &ConstantTable,
     locals: &mut MapLocals,
-    frames: &mut MethodFrames<'_, '_, '_, C, S>,
+    frames: &mut MethodFrames<'_, '_, '_, C>,
 ) -> Result<Result<(), RefusedEntry>, AllocError>
     requires table { IsTable frames.old.types limits.now.pool.now table.now }
     requires max_locals { limits.now.max_locals ≡ length frames.old.running.locals }
@@ -386,13 +385,13 @@ fn declare_all<St: Starts, C: Classes, S: BuildHasher>(
 ///
 /// `initial` has the types of the receiver and of the parameters, a long or double being one of them. No frame is
 /// declared yet, and all locals of the running frame are top.
-pub fn declare<St: Starts, C: Classes, S: BuildHasher>(
+pub fn declare<St: Starts, C: Classes>(
     alloc: Global,
     entries: &[MapEntry],
     limits: &Limits<'_, '_, St>,
     table: &ConstantTable,
     initial: &[u32],
-    frames: &mut MethodFrames<'_, '_, '_, C, S>,
+    frames: &mut MethodFrames<'_, '_, '_, C>,
 ) -> Result<Result<(), RefusedEntry>, AllocError>
     requires table { IsTable frames.old.types limits.now.pool.now table.now }
     requires max_locals { limits.now.max_locals ≡ length frames.old.running.locals }

@@ -9,7 +9,6 @@ use frames::both;
 use hierarchy::{Answer, Classes};
 use insn::StackForm;
 use std::alloc::{AllocError, Global};
-use std::hash::BuildHasher;
 use std::marker::Model;
 use type_numbers::TypeNumbers;
 
@@ -35,17 +34,17 @@ struct Declared {
 /// An object that is not initialized is found and replaced in time for the places that came to hold it, and not for the
 /// length of a frame.
 #[derive(Drop)]
-pub struct MethodFrames<'t, 'c, 'n, C: Classes, S: BuildHasher> {
-    locals: TypeRows<'t, 'c, 'n, C, S>,
+pub struct MethodFrames<'t, 'c, 'n, C: Classes> {
+    locals: TypeRows<'t, 'c, 'n, C>,
     max_locals: u16,
-    stacks: StackRows<'t, 'c, 'n, C, S>,
+    stacks: StackRows<'t, 'c, 'n, C>,
     flag: bool,
     declared: Vec<Declared>,
     /// By offsets, the place of the declared frame, counted from 1; 0 where there is none.
     places: Vec<usize>,
 }
 
-impl<'t, 'c, 'n, C: Classes, S: BuildHasher> Model for MethodFrames<'t, 'c, 'n, C, S> {
+impl<'t, 'c, 'n, C: Classes> Model for MethodFrames<'t, 'c, 'n, C> {
     ghost use Rattle.method_frames.specs.NumberedFrames.{NumberedFrames};
     ghost use Rattle.method_frames.specs.private.Frames.{frames_of, AreFrames};
 
@@ -75,7 +74,7 @@ fn place_at(offset: usize, places: &[usize]) -> usize
     places.get(offset).copied().unwrap_or(0)
 }
 
-impl<'t, 'c, 'n, C: Classes, S: BuildHasher> MethodFrames<'t, 'c, 'n, C, S> {
+impl<'t, 'c, 'n, C: Classes> MethodFrames<'t, 'c, 'n, C> {
     ghost use Rattle.std.specs.Prelude.{◌↔◌, ◌≤◌, [], ◌∷◌, ◌++◌, true, false, None, Some, IsTrue, map, replicate, slice_set, slice_get, IfOk, IfSome, IsSomeAnd, MatchOption, OnErr};
     ghost use Rattle.hierarchy.specs.Answer.{outcome_of, yes};
     ghost use Rattle.insn.specs.Offsets.{at_offset};
@@ -98,11 +97,11 @@ impl<'t, 'c, 'n, C: Classes, S: BuildHasher> MethodFrames<'t, 'c, 'n, C, S> {
     /// none will have more than so many items on its stack.
     pub fn new(
         alloc: Global,
-        types: &'t TypeNumbers<'c, 'n, C, S>,
+        types: &'t TypeNumbers<'c, 'n, C>,
         max_locals: u16,
         max_stack: u16,
         flag: bool,
-    ) -> Result<MethodFrames<'t, 'c, 'n, C, S>, AllocError>
+    ) -> Result<MethodFrames<'t, 'c, 'n, C>, AllocError>
         ensures { IfOk result (λ x. x ≡ record {
           types = types.now;
           limit = max_stack;
@@ -141,7 +140,7 @@ impl<'t, 'c, 'n, C: Classes, S: BuildHasher> MethodFrames<'t, 'c, 'n, C, S> {
     }
 
     /// The numbers that types have.
-    pub fn types(&self) -> &'t TypeNumbers<'c, 'n, C, S>
+    pub fn types(&self) -> &'t TypeNumbers<'c, 'n, C>
         ensures { result.now ≡ self.now.types }
     {
         self.locals.types()

@@ -10,7 +10,6 @@ use blocks::Row;
 use hierarchy::{Answer, Classes};
 use insn::StackForm;
 use std::alloc::{AllocError, Global};
-use std::hash::BuildHasher;
 use std::marker::Model;
 use type_numbers::TypeNumbers;
 
@@ -31,9 +30,9 @@ struct Height {
 /// where it is compared or declared, and then only from the least depth on that it had since it was last written: so a
 /// comparison takes time for what changed and not for the depth of a stack.
 #[derive(Drop)]
-pub struct StackRows<'t, 'c, 'n, C: Classes, S: BuildHasher> {
+pub struct StackRows<'t, 'c, 'n, C: Classes> {
     items: Items,
-    rows: TypeRows<'t, 'c, 'n, C, S>,
+    rows: TypeRows<'t, 'c, 'n, C>,
     /// The running row holds the items in front of this place.
     written: usize,
     /// The running row holds Top from this place on.
@@ -41,7 +40,7 @@ pub struct StackRows<'t, 'c, 'n, C: Classes, S: BuildHasher> {
     declared: Vec<Height>,
 }
 
-impl<'t, 'c, 'n, C: Classes, S: BuildHasher> Model for StackRows<'t, 'c, 'n, C, S> {
+impl<'t, 'c, 'n, C: Classes> Model for StackRows<'t, 'c, 'n, C> {
     ghost use Rattle.method_frames.specs.NumberedStacks.{NumberedStacks};
     ghost use Rattle.method_frames.specs.private.Stacks.{stacks_of, AreStacks};
 
@@ -53,11 +52,11 @@ impl<'t, 'c, 'n, C: Classes, S: BuildHasher> Model for StackRows<'t, 'c, 'n, C, 
 }
 
 /// Writes items, and Top above them, to the places of the running row from one on and in front of another one.
-fn write<C: Classes, S: BuildHasher>(
+fn write<C: Classes>(
     items: &Items,
     from: usize,
     to: usize,
-    rows: &mut TypeRows<'_, '_, '_, C, S>,
+    rows: &mut TypeRows<'_, '_, '_, C>,
 ) -> Result<(), AllocError>
     requires places { to ≤ length rows.old.running }
     requires given { AreGiven rows.old.types items.now }
@@ -71,8 +70,8 @@ fn write<C: Classes, S: BuildHasher>(
 }
 
 /// Takes the first places of the running row as items.
-fn read<C: Classes, S: BuildHasher>(
-    rows: &TypeRows<'_, '_, '_, C, S>,
+fn read<C: Classes>(
+    rows: &TypeRows<'_, '_, '_, C>,
     depth: usize,
     items: &mut Items,
 ) -> Result<(), AllocError>
@@ -87,7 +86,7 @@ fn read<C: Classes, S: BuildHasher>(
     Ok(())
 }
 
-impl<'t, 'c, 'n, C: Classes, S: BuildHasher> StackRows<'t, 'c, 'n, C, S> {
+impl<'t, 'c, 'n, C: Classes> StackRows<'t, 'c, 'n, C> {
     ghost use Rattle.std.specs.Prelude.{◌≡◌, ◌↔◌, ◌<◌, ◌≤◌, [], ◌∷◌, ◌++◌, true, false, length, map, slice_index, slice_get, IsTrue, IfOk, IfSome, MatchOption, OnOk, OnErr};
     ghost use Rattle.hierarchy.specs.Answer.{outcome_of};
     ghost use Rattle.insn.specs.Stacks.{rearranged};
@@ -106,9 +105,9 @@ impl<'t, 'c, 'n, C: Classes, S: BuildHasher> StackRows<'t, 'c, 'n, C, S> {
     /// Stacks of which none that is declared has more items than this; the running one has none.
     pub fn new(
         alloc: Global,
-        types: &'t TypeNumbers<'c, 'n, C, S>,
+        types: &'t TypeNumbers<'c, 'n, C>,
         limit: u16,
-    ) -> Result<StackRows<'t, 'c, 'n, C, S>, AllocError>
+    ) -> Result<StackRows<'t, 'c, 'n, C>, AllocError>
         ensures { IfOk result (λ x. x ≡ record { types = types.now; limit = limit; running = []; declared = [] }) }
     {
         Ok(StackRows {

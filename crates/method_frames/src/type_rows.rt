@@ -9,7 +9,6 @@ use blocks::{Arena, Row};
 use frames::both;
 use hierarchy::{Answer, Classes};
 use std::alloc::{AllocError, Global};
-use std::hash::BuildHasher;
 use std::marker::Model;
 use type_numbers::TypeNumbers;
 
@@ -21,13 +20,13 @@ use type_numbers::TypeNumbers;
 /// The places that came to hold an object which is not initialized are listed, so that it is replaced in time for these
 /// places.
 #[derive(Drop)]
-pub struct TypeRows<'t, 'c, 'n, C: Classes, S: BuildHasher> {
-    types: &'t TypeNumbers<'c, 'n, C, S>,
+pub struct TypeRows<'t, 'c, 'n, C: Classes> {
+    types: &'t TypeNumbers<'c, 'n, C>,
     rows: Arena,
     holders: Holders,
 }
 
-impl<'t, 'c, 'n, C: Classes, S: BuildHasher> Model for TypeRows<'t, 'c, 'n, C, S> {
+impl<'t, 'c, 'n, C: Classes> Model for TypeRows<'t, 'c, 'n, C> {
     ghost use Rattle.method_frames.specs.TypeRows.{NumberedRows};
     ghost use Rattle.method_frames.specs.private.Holders.{AreHeld};
 
@@ -64,7 +63,7 @@ fn replace_listed(
     Ok(())
 }
 
-impl<'t, 'c, 'n, C: Classes, S: BuildHasher> TypeRows<'t, 'c, 'n, C, S> {
+impl<'t, 'c, 'n, C: Classes> TypeRows<'t, 'c, 'n, C> {
     ghost use Rattle.std.specs.Prelude.{◌≡◌, ◌<◌, ◌^◌, ◌∷◌, ◌++◌, ◌⊎◌, ℕ, true, false, [], length, map, replicate, slice_index, slice_set, IfOk, OnOk, OnErr};
     ghost use Rattle.frames.specs.VerificationType.{VerificationType};
     ghost use Rattle.frames.specs.Objects.{replaced as type_replaced};
@@ -81,9 +80,9 @@ impl<'t, 'c, 'n, C: Classes, S: BuildHasher> TypeRows<'t, 'c, 'n, C, S> {
     /// Rows with so many places; the running one holds Top throughout.
     pub fn new(
         alloc: Global,
-        types: &'t TypeNumbers<'c, 'n, C, S>,
+        types: &'t TypeNumbers<'c, 'n, C>,
         count: u16,
-    ) -> Result<TypeRows<'t, 'c, 'n, C, S>, AllocError>
+    ) -> Result<TypeRows<'t, 'c, 'n, C>, AllocError>
         ensures { IfOk result (λ x. x ≡ record {
           types = types.now;
           running = replicate count 0;
@@ -112,7 +111,7 @@ impl<'t, 'c, 'n, C: Classes, S: BuildHasher> TypeRows<'t, 'c, 'n, C, S> {
     }
 
     /// The numbers that types have.
-    pub fn types(&self) -> &'t TypeNumbers<'c, 'n, C, S>
+    pub fn types(&self) -> &'t TypeNumbers<'c, 'n, C>
         ensures { result.now ≡ self.now.types }
     {
         self.types

@@ -7,13 +7,9 @@ ghost use Rattle.numbered_pass.specs.private.Finding.{IsFound};
 
 use hierarchy::Classes;
 use method_frames::MethodFrames;
-use std::hash::BuildHasher;
 
 /// The place of the frame that is declared at an offset.
-pub fn declared_in<C: Classes, S: BuildHasher>(
-    at: u16,
-    frames: &MethodFrames<'_, '_, '_, C, S>,
-) -> Option<usize>
+pub fn declared_in<C: Classes>(at: u16, frames: &MethodFrames<'_, '_, '_, C>) -> Option<usize>
     ensures { let s = frames.now.types in let ds = frames.now.declared in
         MatchOption result (at_offset (frames_by s ds) at ≡ None) (IsFound s ds (pos at)) }
 {
@@ -21,10 +17,7 @@ pub fn declared_in<C: Classes, S: BuildHasher>(
 }
 
 /// The place of the frame that is declared at a target, which may lie outside the code.
-pub fn declared_at<C: Classes, S: BuildHasher>(
-    target: i64,
-    frames: &MethodFrames<'_, '_, '_, C, S>,
-) -> Option<usize>
+pub fn declared_at<C: Classes>(target: i64, frames: &MethodFrames<'_, '_, '_, C>) -> Option<usize>
     ensures { let s = frames.now.types in let ds = frames.now.declared in
         MatchOption result (declared_at (frames_by s ds) target ≡ None) (IsFound s ds target) }
 {

@@ -10,15 +10,14 @@ use crate::declared::declared_in;
 use hierarchy::Classes;
 use method_frames::MethodFrames;
 use rules::Reason;
-use std::hash::BuildHasher;
 use verify::check_answer;
 
 /// The running frame, if it comes to a start, comes to the frame of this place, which is declared there: 69 and 77 by
 /// their comparison; or 1 where memory runs out.
-fn check_coming<'n, C: Classes, S: BuildHasher>(
+fn check_coming<'n, C: Classes>(
     comes: bool,
     frame: usize,
-    frames: &mut MethodFrames<'_, '_, 'n, C, S>,
+    frames: &mut MethodFrames<'_, '_, 'n, C>,
 ) -> Result<(), Reason<'n>>
     requires { frame < length frames.old.declared }
     ensures same { frames.new ≡ frames.old }
@@ -34,10 +33,10 @@ fn check_coming<'n, C: Classes, S: BuildHasher>(
 
 /// The running frame, if it comes to a start, becomes the frame of this place, which is declared there: 69 and 77 by
 /// their comparison; or 1 where memory runs out.
-fn take_on<'n, C: Classes, S: BuildHasher>(
+fn take_on<'n, C: Classes>(
     comes: bool,
     frame: usize,
-    frames: &mut MethodFrames<'_, '_, 'n, C, S>,
+    frames: &mut MethodFrames<'_, '_, 'n, C>,
 ) -> Result<(), Reason<'n>>
     requires { frame < length frames.old.declared }
     ensures entered { let s = frames.old.types in Enters s.classes comes (held frames.old)
@@ -51,10 +50,10 @@ fn take_on<'n, C: Classes, S: BuildHasher>(
 
 /// The running frame, if one comes to a start, becomes the one that is declared there, if one is: 69 and 77 by their
 /// comparison, and 70 where none comes and none is declared; or 1 where memory runs out.
-pub fn enter<'n, C: Classes, S: BuildHasher>(
+pub fn enter<'n, C: Classes>(
     at: u16,
     comes: bool,
-    frames: &mut MethodFrames<'_, '_, 'n, C, S>,
+    frames: &mut MethodFrames<'_, '_, 'n, C>,
 ) -> Result<(), Reason<'n>>
     ensures entered { let s = frames.old.types in Enters s.classes comes (held frames.old)
         (at_offset (frames_by s frames.old.declared) at) (held frames.new) result }

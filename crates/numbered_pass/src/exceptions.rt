@@ -26,7 +26,6 @@ use method_frames::MethodFrames;
 use numbered_rules::{Body, RuleNumbers};
 use rules::Reason;
 use std::alloc::{AllocError, Global};
-use std::hash::BuildHasher;
 use type_numbers::NamedConstant;
 use verify::check_answer;
 
@@ -112,10 +111,10 @@ fn is_placed(entry: &Entry, body: &Body<'_, '_>) -> bool
 }
 
 /// The place of the frame that is declared at an entry's handler, if range and handler stand where they may.
-fn place_of<C: Classes, S: BuildHasher>(
+fn place_of<C: Classes>(
     entry: &Entry,
     body: &Body<'_, '_>,
-    frames: &MethodFrames<'_, '_, '_, C, S>,
+    frames: &MethodFrames<'_, '_, '_, C>,
 ) -> Option<usize>
     ensures { let x = frames.now in (e : ExceptionEntry) → IsEntryBy x.types e entry.now
         → IsPlaced x (method_view body.now.method.now) e result }
@@ -128,10 +127,10 @@ fn place_of<C: Classes, S: BuildHasher>(
 }
 
 /// Whether what an entry catches is assignable to Throwable.
-fn throwable_answer<'n, C: Classes, S: BuildHasher>(
+fn throwable_answer<'n, C: Classes>(
     entry: &Entry,
     body: &Body<'_, '_>,
-    frames: &MethodFrames<'_, '_, 'n, C, S>,
+    frames: &MethodFrames<'_, '_, 'n, C>,
 ) -> Answer<'n>
     requires numbers { AreRuleNumbers frames.now.types (method_view body.now.method.now) body.now.numbers }
     requires entry { (e : ExceptionEntry) × IsEntryBy frames.now.types e entry.now }
@@ -145,10 +144,10 @@ fn throwable_answer<'n, C: Classes, S: BuildHasher>(
 
 /// The place of the frame that is declared at an entry's handler. The entry is refused 72 where it is wrong: by its
 /// places, or since what it catches is not assignable to Throwable; 77 by that comparison.
-fn judge_entry<'n, C: Classes, S: BuildHasher>(
+fn judge_entry<'n, C: Classes>(
     entry: &Entry,
     body: &Body<'_, '_>,
-    frames: &MethodFrames<'_, '_, 'n, C, S>,
+    frames: &MethodFrames<'_, '_, 'n, C>,
 ) -> Result<usize, Reason<'n>>
     requires numbers { AreRuleNumbers frames.now.types (method_view body.now.method.now) body.now.numbers }
     requires entry { (e : ExceptionEntry) × IsEntryBy frames.now.types e entry.now }
@@ -165,10 +164,10 @@ fn judge_entry<'n, C: Classes, S: BuildHasher>(
 
 /// How many local variables, from 0 up, the frame at a handler has in common with that of the entry before it; none
 /// where there is no such entry.
-fn shared_locals<C: Classes, S: BuildHasher>(
+fn shared_locals<C: Classes>(
     before: Option<Handler>,
     frame: usize,
-    frames: &MethodFrames<'_, '_, '_, C, S>,
+    frames: &MethodFrames<'_, '_, '_, C>,
 ) -> usize
     requires before { IfSome before (λ g. g.frame < length frames.now.declared) }
     requires frame { frame < length frames.now.declared }
@@ -185,11 +184,11 @@ fn shared_locals<C: Classes, S: BuildHasher>(
 }
 
 /// The handler of an entry behind another one, if there is one. The entry is refused 72 or 77.
-fn handler_of<'n, C: Classes, S: BuildHasher>(
+fn handler_of<'n, C: Classes>(
     entry: &Entry,
     before: Option<Handler>,
     body: &Body<'_, '_>,
-    frames: &MethodFrames<'_, '_, 'n, C, S>,
+    frames: &MethodFrames<'_, '_, 'n, C>,
 ) -> Result<Handler, Reason<'n>>
     requires numbers { AreRuleNumbers frames.now.types (method_view body.now.method.now) body.now.numbers }
     requires entry { (e : ExceptionEntry) × IsEntryBy frames.now.types e entry.now }
@@ -211,11 +210,11 @@ fn handler_of<'n, C: Classes, S: BuildHasher>(
 /// Judges an exception table by the frames that are declared, and makes it ready for the pass: the first entry that is
 /// wrong is refused 72, or 77 where the class that it catches has to be looked up and is absent; or 1 where memory runs
 /// out.
-pub fn handlers_of<'n, C: Classes, S: BuildHasher>(
+pub fn handlers_of<'n, C: Classes>(
     alloc: Global,
     entries: &[Entry],
     body: &Body<'_, '_>,
-    frames: &MethodFrames<'_, '_, 'n, C, S>,
+    frames: &MethodFrames<'_, '_, 'n, C>,
 ) -> Result<Vec<Handler>, Reason<'n>>
     requires numbers { AreRuleNumbers frames.now.types (method_view body.now.method.now) body.now.numbers }
     requires entries { AreEntriesBy frames.now.types (method_view body.now.method.now).exceptions entries.now }

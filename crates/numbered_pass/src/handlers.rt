@@ -13,7 +13,6 @@ ghost use Rattle.numbered_pass.specs.private.Following.{IsHandler, AreHandlers, 
 use hierarchy::Classes;
 use method_frames::MethodFrames;
 use rules::{Reason, together};
-use std::hash::BuildHasher;
 use verify::check_answer;
 
 /// An entry of an exception table (JVMS 4.7.3).
@@ -66,11 +65,11 @@ fn covers_since(since: Option<u16>, handler: &Handler) -> bool
 
 /// The frame before an instruction, with what an entry catches alone on its stack, comes to the handler, if the entry
 /// covers the instruction: 73 and 77 by their comparison. An entry that covered an earlier offset too is passed over.
-fn check_handler<'n, C: Classes, S: BuildHasher>(
+fn check_handler<'n, C: Classes>(
     at: u16,
     since: Option<u16>,
     handler: &Handler,
-    frames: &mut MethodFrames<'_, '_, 'n, C, S>,
+    frames: &mut MethodFrames<'_, '_, 'n, C>,
 ) -> Result<(), Reason<'n>>
     requires { (e : ExceptionEntry) × IsHandler frames.old.types frames.old.declared e handler.now }
     ensures same { frames.new ≡ frames.old }
@@ -87,11 +86,11 @@ fn check_handler<'n, C: Classes, S: BuildHasher>(
 
 /// The frame before an instruction comes to the handler of each entry that covers the instruction, but for those that
 /// covered an earlier offset too.
-fn check_handlers<'n, C: Classes, S: BuildHasher>(
+fn check_handlers<'n, C: Classes>(
     at: u16,
     since: Option<u16>,
     table: &[Handler],
-    frames: &mut MethodFrames<'_, '_, 'n, C, S>,
+    frames: &mut MethodFrames<'_, '_, 'n, C>,
 ) -> Result<(), Reason<'n>>
     requires { (es : List ExceptionEntry) × AreHandlers frames.old.types frames.old.declared es table.now }
     ensures same { frames.new ≡ frames.old }
@@ -117,14 +116,14 @@ fn covers_both(since: u16, at: u16, handler: &Handler) -> bool
 /// Whether it is known that a type may stand for a local variable of the frame at an entry's handler; none where the
 /// entry covers both offsets and it may not. It is not asked if the frame shares the local variable with that of the
 /// entry before, of which it is known.
-fn takes_local<C: Classes, S: BuildHasher>(
+fn takes_local<C: Classes>(
     before: bool,
     since: u16,
     at: u16,
     handler: &Handler,
     place: usize,
     number: u32,
-    frames: &MethodFrames<'_, '_, '_, C, S>,
+    frames: &MethodFrames<'_, '_, '_, C>,
 ) -> Option<bool>
     requires given { IsGiven frames.now.types number }
     requires frame { handler.now.frame < length frames.now.declared }
@@ -146,13 +145,13 @@ fn takes_local<C: Classes, S: BuildHasher>(
 }
 
 /// Whether a type may stand for a local variable of the frame at the handler of each entry that covers both offsets.
-fn take_local<C: Classes, S: BuildHasher>(
+fn take_local<C: Classes>(
     since: u16,
     at: u16,
     table: &[Handler],
     place: usize,
     number: u32,
-    frames: &MethodFrames<'_, '_, '_, C, S>,
+    frames: &MethodFrames<'_, '_, '_, C>,
 ) -> bool
     requires given { IsGiven frames.now.types number }
     requires entries { (es : List ExceptionEntry) × AreHandlers frames.now.types frames.now.declared es table.now }
@@ -172,11 +171,11 @@ fn take_local<C: Classes, S: BuildHasher>(
 
 /// Whether each local variable of the running frame that is not as it was kept may stand for that of the frame at the
 /// handler of each entry that covers both offsets, where only few changed.
-fn take_changes<C: Classes, S: BuildHasher>(
+fn take_changes<C: Classes>(
     since: u16,
     at: u16,
     table: &[Handler],
-    frames: &MethodFrames<'_, '_, '_, C, S>,
+    frames: &MethodFrames<'_, '_, '_, C>,
 ) -> bool
     requires { (es : List ExceptionEntry) × AreHandlers frames.now.types frames.now.declared es table.now }
     ensures taken { let x = frames.now in IsTrue result → (es : List ExceptionEntry)
@@ -238,11 +237,7 @@ fn are_covering(at: u16, table: &[Handler]) -> bool
 }
 
 /// Whether the entries that cover an offset are those that were compared, and the frame is the one that was kept.
-fn is_unchanged<C: Classes, S: BuildHasher>(
-    settled: Settled,
-    at: u16,
-    frames: &MethodFrames<'_, '_, '_, C, S>,
-) -> bool
+fn is_unchanged<C: Classes>(settled: Settled, at: u16, frames: &MethodFrames<'_, '_, '_, C>) -> bool
     ensures { IsTrue result → IsUnchanged frames.now settled at }
 {
     at < settled.until && frames.flag() == settled.flag && frames.first_changed(0).is_none()
@@ -271,11 +266,7 @@ impl Handlers {
     }
 
     /// Whether nothing is to be compared at an offset: all entries that cover it were compared with the frame.
-    pub fn are_idle<C: Classes, S: BuildHasher>(
-        &self,
-        at: u16,
-        frames: &MethodFrames<'_, '_, '_, C, S>,
-    ) -> bool
+    pub fn are_idle<C: Classes>(&self, at: u16, frames: &MethodFrames<'_, '_, '_, C>) -> bool
         ensures { let x = frames.now in IsTrue result → (es : List ExceptionEntry) → Follows x es at self.now
             → least (handler_conditions x.types.classes (frames_by x.types x.declared) at (held x) es) ≡ None }
     {
@@ -287,10 +278,10 @@ impl Handlers {
 
     /// The offset at which entries were compared, if the frame comes to the handlers of those that cover this one too,
     /// by what changed since.
-    fn settled_since<C: Classes, S: BuildHasher>(
+    fn settled_since<C: Classes>(
         &self,
         at: u16,
-        frames: &MethodFrames<'_, '_, '_, C, S>,
+        frames: &MethodFrames<'_, '_, '_, C>,
     ) -> Option<u16>
         requires { (es : List ExceptionEntry) × Follows frames.now es at self.now }
         ensures { let x = frames.now in (es : List ExceptionEntry) → Follows x es at self.now
@@ -317,10 +308,10 @@ impl Handlers {
 
     /// The frame before an instruction, with the caught exception alone on its stack, comes to the handler of each
     /// entry that covers the instruction: 73 and 77 by their comparison, 77 by the first of these entries.
-    pub fn catch<'n, C: Classes, S: BuildHasher>(
+    pub fn catch<'n, C: Classes>(
         &mut self,
         at: u16,
-        frames: &mut MethodFrames<'_, '_, 'n, C, S>,
+        frames: &mut MethodFrames<'_, '_, 'n, C>,
     ) -> Result<(), Reason<'n>>
         requires { (es : List ExceptionEntry) × Follows frames.old es at self.old }
         ensures rest { frames.new ≡ record frames.old { kept = frames.new.kept } }

@@ -25,7 +25,6 @@ use numbered_rules::{Body, NamedFacts, run, run_plain};
 use rules::{
     ClassConstants, Named, Reason, branches_by, first_reason, goes_on, is_plain, together,
 };
-use std::hash::BuildHasher;
 use verify::{PlaceSet, check_end};
 
 /// The declared frames with which the running frame was compared.
@@ -50,14 +49,14 @@ fn facts_of(named: &Named<'_>) -> NamedFacts
 
 /// Judges an instruction with this act, in the frame before it, which becomes the frame after: by its rule and its
 /// targets, with the reason that `aside` may hold. It does not judge the frame at the next instruction.
-fn judge_named<'a, C: Classes, S: BuildHasher>(
+fn judge_named<'a, C: Classes>(
     body: &Body<'_, 'a>,
     at: u16,
     act: &Act<'a>,
     facts: NamedFacts,
     aside: Result<(), Reason<'a>>,
     seen: &mut PlaceSet,
-    frames: &mut MethodFrames<'_, '_, 'a, C, S>,
+    frames: &mut MethodFrames<'_, '_, 'a, C>,
 ) -> Result<(), Reason<'a>>
     requires locals { length frames.old.running.locals ≡ body.now.method.now.code.now.max_locals }
     requires numbers { AreRuleNumbers frames.old.types (method_view body.now.method.now) body.now.numbers }
@@ -90,14 +89,14 @@ fn covers_constructor(own: bool, at: u16, handlers: &Handlers) -> bool
 
 /// Judges an instruction in the frame before it, which becomes the frame after: by its rule, the protected member that
 /// it uses, its targets, and the handlers of the entries that cover it.
-fn judge_wholly<'a, C: Classes, S: BuildHasher>(
+fn judge_wholly<'a, C: Classes>(
     body: &Body<'_, 'a>,
     at: u16,
     act: &Act<'a>,
     last: bool,
     constants: &mut ClassConstants<'_, '_, 'a, C>,
     compared: &mut Compared,
-    frames: &mut MethodFrames<'_, '_, 'a, C, S>,
+    frames: &mut MethodFrames<'_, '_, 'a, C>,
 ) -> Result<(), Reason<'a>>
     requires constants { constants.old.members
         ≡ record { class = body.now.method.now.class.now; classes = frames.old.types.classes } }
@@ -135,14 +134,14 @@ fn judge_wholly<'a, C: Classes, S: BuildHasher>(
 
 /// Like [`judge_wholly`], but by the rule alone where nothing else is asked: no handler is to be compared, and the
 /// instruction is plain and not the last one.
-pub fn judge<'a, C: Classes, S: BuildHasher>(
+pub fn judge<'a, C: Classes>(
     body: &Body<'_, 'a>,
     at: u16,
     act: &Act<'a>,
     last: bool,
     constants: &mut ClassConstants<'_, '_, 'a, C>,
     compared: &mut Compared,
-    frames: &mut MethodFrames<'_, '_, 'a, C, S>,
+    frames: &mut MethodFrames<'_, '_, 'a, C>,
 ) -> Result<(), Reason<'a>>
     requires constants { constants.old.members
         ≡ record { class = body.now.method.now.class.now; classes = frames.old.types.classes } }

@@ -28,14 +28,10 @@ use method_frames::MethodFrames;
 use numbered_rules::TOP;
 use pool::MethodConstant;
 use rules::{Members, Named, Reason, check_object, is_constructor, special_index, used_by};
-use std::hash::BuildHasher;
 use type_numbers::TypeNumbers;
 
 /// The type of the item of the running frame's stack that so many stand above; top where there is none.
-fn item_beneath<'n, C: Classes, S: BuildHasher>(
-    above: usize,
-    frames: &MethodFrames<'_, '_, 'n, C, S>,
-) -> u32
+fn item_beneath<'n, C: Classes>(above: usize, frames: &MethodFrames<'_, '_, 'n, C>) -> u32
     ensures given { IsGiven frames.now.types result }
     ensures item { type_by frames.now.types result ≡ top_of (drop above (held frames.now).stack) }
 {
@@ -53,10 +49,10 @@ fn is_array(t: &VType<'_>) -> bool
 }
 
 /// Whether an object may be one of a class, by their numbers. No array is, whatever the class.
-fn object_answer<'n, C: Classes, S: BuildHasher>(
+fn object_answer<'n, C: Classes>(
     object: u32,
     class: u32,
-    types: &TypeNumbers<'_, 'n, C, S>,
+    types: &TypeNumbers<'_, 'n, C>,
 ) -> Answer<'n>
     requires object { IsGiven types.now object }
     requires class { IsGiven types.now class }
@@ -72,13 +68,13 @@ fn object_answer<'n, C: Classes, S: BuildHasher>(
 /// Judges an instruction, in the frame before it, by the member that it uses: where that is guarded, 82 unless the
 /// object is one of the current class, of which this is the number, and 77 where a class is missing; or 1 where memory
 /// runs out.
-pub fn check_member<'a, C: Classes, S: BuildHasher>(
+pub fn check_member<'a, C: Classes>(
     method: &CodeMethod<'_, 'a>,
     act: &Act<'a>,
     named: &Named<'a>,
     class: u32,
     members: &mut Members<'_, '_, 'a, C>,
-    frames: &MethodFrames<'_, '_, 'a, C, S>,
+    frames: &MethodFrames<'_, '_, 'a, C>,
 ) -> Result<(), Reason<'a>>
     requires named { IsNamed (method_view method.now) (act_view act.now) named.now }
     requires class { IsNumber frames.now.types class (class_of (method_view method.now).class) }
@@ -98,9 +94,9 @@ pub fn check_member<'a, C: Classes, S: BuildHasher>(
 }
 
 /// Whether the own object, not initialized, stands beneath the arguments.
-fn is_on_own<'a, C: Classes, S: BuildHasher>(
+fn is_on_own<'a, C: Classes>(
     called: &MethodConstant<'a>,
-    frames: &MethodFrames<'_, '_, 'a, C, S>,
+    frames: &MethodFrames<'_, '_, 'a, C>,
 ) -> bool
     ensures { result ≡ is_uninit_this
         (top_of (beneath (arguments_on (method_constant_view called.now).type.params []) (held frames.now).stack)) }
@@ -110,9 +106,9 @@ fn is_on_own<'a, C: Classes, S: BuildHasher>(
 }
 
 /// Whether `invokespecial` of the method calls a constructor on the own object.
-fn calls_on_own<'a, C: Classes, S: BuildHasher>(
+fn calls_on_own<'a, C: Classes>(
     named: Option<&MethodConstant<'a>>,
-    frames: &MethodFrames<'_, '_, 'a, C, S>,
+    frames: &MethodFrames<'_, '_, 'a, C>,
 ) -> bool
     ensures { (major : ℕ) (me : List ℕ)
         → result ≡ constructs_own (invoke_special major me (option_map (λ c. method_constant_view c.now) named.entry))
@@ -126,11 +122,11 @@ fn calls_on_own<'a, C: Classes, S: BuildHasher>(
 
 /// Whether an instruction with this act calls a constructor on the own object, which is not initialized (JVMS 4.10.1.9,
 /// invokespecial).
-pub fn constructs_own<'a, C: Classes, S: BuildHasher>(
+pub fn constructs_own<'a, C: Classes>(
     method: &CodeMethod<'_, 'a>,
     act: &Act<'a>,
     named: &Named<'a>,
-    frames: &MethodFrames<'_, '_, 'a, C, S>,
+    frames: &MethodFrames<'_, '_, 'a, C>,
 ) -> bool
     requires { IsNamed (method_view method.now) (act_view act.now) named.now }
     ensures { result ≡ constructs_own (typing_rule (method_view method.now) (act_view act.now)) (held frames.now) }

@@ -33,7 +33,6 @@ use method_frames::{MethodFrames, declare, is_wide};
 use numbered_rules::Body;
 use rules::{ClassConstants, Reason};
 use std::alloc::{AllocError, Global};
-use std::hash::BuildHasher;
 use verify::{PlaceSet, Verdict, VerifyFault, refuse, stack_map};
 
 /// How many units a type takes, by its number.
@@ -57,12 +56,12 @@ fn units(numbers: &[u32]) -> usize
 
 /// Declares the frames of these entries, and makes the running frame the one with which the method begins; or tells the
 /// number of the fault of the first entry that is refused. The only other refusal is 1, where memory runs out.
-fn declare_entries<'a, C: Classes, S: BuildHasher>(
+fn declare_entries<'a, C: Classes>(
     alloc: Global,
     entries: &[MapEntry],
     body: &Body<'_, 'a>,
     initial: &[u32],
-    frames: &mut MethodFrames<'_, '_, 'a, C, S>,
+    frames: &mut MethodFrames<'_, '_, 'a, C>,
 ) -> Result<Result<(), u8>, AllocError>
     requires numbers { AreRuleNumbers frames.old.types (method_view body.now.method.now) body.now.numbers }
     requires fresh { IsFresh frames.old (method_view body.now.method.now) }
@@ -99,11 +98,11 @@ fn fault_number(fault: ReadFault) -> Result<u8, VerifyFault>
 /// Declares the frames of a method's stack map (JVMS 4.7.4), none where it has no map, and makes the running frame the
 /// one with which the method begins; or tells the number of the fault for which the map is refused. The only other
 /// refusal is 1, where memory runs out.
-fn declare_map<'a, C: Classes, S: BuildHasher>(
+fn declare_map<'a, C: Classes>(
     alloc: Global,
     body: &Body<'_, 'a>,
     initial: &[u32],
-    frames: &mut MethodFrames<'_, '_, 'a, C, S>,
+    frames: &mut MethodFrames<'_, '_, 'a, C>,
 ) -> Result<Result<(), u8>, VerifyFault>
     requires numbers { AreRuleNumbers frames.old.types (method_view body.now.method.now) body.now.numbers }
     requires fresh { IsFresh frames.old (method_view body.now.method.now) }
@@ -126,11 +125,11 @@ fn declare_map<'a, C: Classes, S: BuildHasher>(
 
 /// Judges a method by its exception table, under the frames that are declared, and then its instructions by one pass.
 /// The running frame is the one with which the method begins.
-fn judge_code<'a, C: Classes, S: BuildHasher>(
+fn judge_code<'a, C: Classes>(
     alloc: Global,
     body: &Body<'_, 'a>,
     constants: &mut ClassConstants<'_, '_, 'a, C>,
-    frames: &mut MethodFrames<'_, '_, 'a, C, S>,
+    frames: &mut MethodFrames<'_, '_, 'a, C>,
 ) -> Result<Verdict<'a>, VerifyFault>
     requires constants { constants.old.members
         ≡ record { class = body.now.method.now.class.now; classes = frames.old.types.classes } }
@@ -161,12 +160,12 @@ fn judge_code<'a, C: Classes, S: BuildHasher>(
 /// Judges a method with code (JVMS 4.10.1), whose receiver and parameters have types of these numbers: 64 where they do
 /// not fit, 78 where its stack map is refused, and then by its exception table and its instructions. `frames` may have
 /// been those of another method of the class.
-pub fn judge_body<'a, C: Classes, S: BuildHasher>(
+pub fn judge_body<'a, C: Classes>(
     alloc: Global,
     body: &Body<'_, 'a>,
     initial: &[u32],
     constants: &mut ClassConstants<'_, '_, 'a, C>,
-    frames: &mut MethodFrames<'_, '_, 'a, C, S>,
+    frames: &mut MethodFrames<'_, '_, 'a, C>,
 ) -> Result<Verdict<'a>, VerifyFault>
     requires constants { constants.old.members
         ≡ record { class = body.now.method.now.class.now; classes = frames.old.types.classes } }

@@ -9,7 +9,6 @@ use frames::VType;
 use hierarchy::Classes;
 use names::{Base, OBJECT, THROWABLE};
 use std::alloc::{AllocError, Global};
-use std::hash::BuildHasher;
 use type_numbers::TypeNumbers;
 
 /// The numbers of the types that the rules of the instructions of all methods of a class ask for.
@@ -28,9 +27,9 @@ pub struct ClassNumbers {
 }
 
 /// The number of a type, if there is one. The only refusal is 1, where memory runs out.
-pub fn number_of<'a, C: Classes, S: BuildHasher>(
+pub fn number_of<'a, C: Classes>(
     vtype: Option<VType<'a>>,
-    types: &mut TypeNumbers<'_, 'a, C, S>,
+    types: &mut TypeNumbers<'_, 'a, C>,
 ) -> Result<Option<u32>, AllocError>
     ensures kept { Extends types.old types.new }
     ensures given { IfOk result (λ n. IsNumberOf types.new n (option_map type_of vtype.entry)) }
@@ -44,10 +43,10 @@ pub fn number_of<'a, C: Classes, S: BuildHasher>(
 
 /// The numbers of types, one for each, such as those of a method's receiver and parameters. The only refusal is 1,
 /// where memory runs out.
-pub fn numbers_of<'a, C: Classes, S: BuildHasher>(
+pub fn numbers_of<'a, C: Classes>(
     alloc: Global,
     vtypes: &[VType<'a>],
-    types: &mut TypeNumbers<'_, 'a, C, S>,
+    types: &mut TypeNumbers<'_, 'a, C>,
 ) -> Result<Vec<u32>, AllocError>
     ensures kept { Extends types.old types.new }
     ensures given { IfOk result (λ ns. AreNumbers types.new ns.items (map type_of vtypes.now)) }
@@ -63,10 +62,10 @@ pub fn numbers_of<'a, C: Classes, S: BuildHasher>(
 impl ClassNumbers {
     /// The numbers for a class of a name, with a direct superclass of a name, if it has one. The only refusal is 1,
     /// where memory runs out.
-    pub fn new<'a, C: Classes, S: BuildHasher>(
+    pub fn new<'a, C: Classes>(
         class: &'a [u8],
         superclass: Option<&'a [u8]>,
-        types: &mut TypeNumbers<'_, 'a, C, S>,
+        types: &mut TypeNumbers<'_, 'a, C>,
     ) -> Result<ClassNumbers, AllocError>
         ensures kept { Extends types.old types.new }
         ensures given { IfOk result

@@ -20,15 +20,14 @@ use insn::Instructions;
 use method_frames::MethodFrames;
 use numbered_rules::Body;
 use rules::{ClassConstants, goes_on};
-use std::hash::BuildHasher;
 use verify::{Verdict, VerifyFault, refuse};
 
 /// Judges code, by one pass over its bytes that carries one frame, the one with which the method begins.
-pub fn pass<'a, C: Classes, S: BuildHasher>(
+pub fn pass<'a, C: Classes>(
     body: &Body<'_, 'a>,
     constants: &mut ClassConstants<'_, '_, 'a, C>,
     compared: &mut Compared,
-    frames: &mut MethodFrames<'_, '_, 'a, C, S>,
+    frames: &mut MethodFrames<'_, '_, 'a, C>,
 ) -> Result<Verdict<'a>, VerifyFault>
     requires constants { constants.old.members
         ≡ record { class = body.now.method.now.class.now; classes = frames.old.types.classes } }

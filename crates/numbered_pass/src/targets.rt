@@ -16,14 +16,13 @@ use hierarchy::Classes;
 use insn::{BranchTargets, Branches};
 use method_frames::MethodFrames;
 use rules::{Reason, together};
-use std::hash::BuildHasher;
 use verify::{PlaceSet, check_answer};
 
 /// The running frame comes to the declared one of this place: 68 and 77 by their comparison, or 1 where memory runs
 /// out.
-fn compare<'n, C: Classes, S: BuildHasher>(
+fn compare<'n, C: Classes>(
     frame: usize,
-    frames: &mut MethodFrames<'_, '_, 'n, C, S>,
+    frames: &mut MethodFrames<'_, '_, 'n, C>,
 ) -> Result<(), Reason<'n>>
     requires { frame < length frames.old.declared }
     ensures same { frames.new ≡ frames.old }
@@ -36,10 +35,10 @@ fn compare<'n, C: Classes, S: BuildHasher>(
 
 /// The frame after an instruction comes to a target: 67 where none is declared there, 68 and 77 by their comparison. A
 /// frame that was compared before is not compared again.
-fn check_target<'n, C: Classes, S: BuildHasher>(
+fn check_target<'n, C: Classes>(
     target: i64,
     seen: &mut PlaceSet,
-    frames: &mut MethodFrames<'_, '_, 'n, C, S>,
+    frames: &mut MethodFrames<'_, '_, 'n, C>,
 ) -> Option<Result<(), Reason<'n>>>
     ensures same { frames.new ≡ frames.old }
     ensures compared { let s = frames.old.types in Compares s.classes (frames_by s frames.old.declared)
@@ -55,10 +54,10 @@ fn check_target<'n, C: Classes, S: BuildHasher>(
 }
 
 /// The frame after an instruction comes to each of these targets.
-fn check_all<'n, C: Classes, S: BuildHasher>(
+fn check_all<'n, C: Classes>(
     targets: BranchTargets<'_>,
     seen: &mut PlaceSet,
-    frames: &mut MethodFrames<'_, '_, 'n, C, S>,
+    frames: &mut MethodFrames<'_, '_, 'n, C>,
 ) -> Result<(), Reason<'n>>
     ensures same { frames.new ≡ frames.old }
     ensures judged { let s = frames.old.types in Judges (target_conditions s.classes (frames_by s frames.old.declared)
@@ -77,11 +76,11 @@ fn check_all<'n, C: Classes, S: BuildHasher>(
 /// The frame after an instruction at this offset comes to all its targets, the default of a switch first: 67 where no
 /// frame is declared at one, 68 and 77 by their comparison; or 1 where memory runs out. Equal targets are compared
 /// once.
-pub fn check_targets<'n, C: Classes, S: BuildHasher>(
+pub fn check_targets<'n, C: Classes>(
     at: u16,
     branches: Branches<'_>,
     seen: &mut PlaceSet,
-    frames: &mut MethodFrames<'_, '_, 'n, C, S>,
+    frames: &mut MethodFrames<'_, '_, 'n, C>,
 ) -> Result<(), Reason<'n>>
     ensures same { frames.new ≡ frames.old }
     ensures judged { let s = frames.old.types in Judges (target_conditions s.classes (frames_by s frames.old.declared)

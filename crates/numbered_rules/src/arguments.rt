@@ -17,14 +17,13 @@ use crate::expected::Expected;
 use frames::both;
 use hierarchy::{Answer, Classes};
 use method_frames::MethodFrames;
-use std::hash::BuildHasher;
 
 /// Takes one more operand off the stack, of a type that is assignable to the one of a number, and says whether all were
 /// of their types; none where the stack is empty.
-fn take_one<'n, C: Classes, S: BuildHasher>(
+fn take_one<'n, C: Classes>(
     so_far: Answer<'n>,
     number: u32,
-    frames: &mut MethodFrames<'_, '_, 'n, C, S>,
+    frames: &mut MethodFrames<'_, '_, 'n, C>,
 ) -> Option<Answer<'n>>
     requires { IsGiven frames.old.types number }
     ensures taken { MatchOption result (frames.old.running.stack ≡ [])
@@ -39,10 +38,10 @@ fn take_one<'n, C: Classes, S: BuildHasher>(
 /// Takes the arguments of a call off the stack, by the numbers of the types of the parameters, the last one first; and
 /// beneath them the receiver, if there is one. None where there are too few items; then nothing is said of the items
 /// that are left, but that only the running frame changed.
-pub fn take_arguments<'n, C: Classes, S: BuildHasher>(
+pub fn take_arguments<'n, C: Classes>(
     parameters: &[u32],
     receiver: Option<u32>,
-    frames: &mut MethodFrames<'_, '_, 'n, C, S>,
+    frames: &mut MethodFrames<'_, '_, 'n, C>,
 ) -> Option<Answer<'n>>
     requires parameters { All (IsGiven frames.old.types) parameters.now }
     requires receiver { IfSome receiver (IsGiven frames.old.types) }

@@ -26,7 +26,6 @@ use insn::{Kind, computed_as};
 use method_frames::MethodFrames;
 use names::Primitive;
 use rules::Reason;
-use std::hash::BuildHasher;
 use type_numbers::Parts;
 
 /// Whether a type is that of an array of references, by the parts of its number.
@@ -50,7 +49,7 @@ fn element_of(number: u32) -> u32
 }
 
 /// The number of the type of an element of the array beneath an index; top where the stack has fewer than two items.
-fn element_beneath<C: Classes, S: BuildHasher>(frames: &MethodFrames<'_, '_, '_, C, S>) -> u32
+fn element_beneath<C: Classes>(frames: &MethodFrames<'_, '_, '_, C>) -> u32
     ensures given { IsGiven frames.now.types result }
     ensures element { type_by frames.now.types result ≡ element_of (top_of (rest_of (held frames.now).stack)) }
 {
@@ -61,10 +60,10 @@ fn element_beneath<C: Classes, S: BuildHasher>(frames: &MethodFrames<'_, '_, '_,
 }
 
 /// `iaload`, `laload`, `faload`, `daload`, `baload`, `caload` and `saload`
-pub fn load_element<'n, C: Classes, S: BuildHasher>(
+pub fn load_element<'n, C: Classes>(
     method: &CodeMethod<'_, '_>,
     element: Primitive,
-    frames: &mut MethodFrames<'_, '_, 'n, C, S>,
+    frames: &mut MethodFrames<'_, '_, 'n, C>,
 ) -> Result<(), Reason<'n>>
     ensures done { (at : ℕ) → let m = method_view method.now in let f = held frames.old in
         let p = typing_rule m (LoadElement element) in
@@ -81,10 +80,10 @@ pub fn load_element<'n, C: Classes, S: BuildHasher>(
 }
 
 /// `iastore`, `lastore`, `fastore`, `dastore`, `bastore`, `castore` and `sastore`
-pub fn store_element<'n, C: Classes, S: BuildHasher>(
+pub fn store_element<'n, C: Classes>(
     method: &CodeMethod<'_, '_>,
     element: Primitive,
-    frames: &mut MethodFrames<'_, '_, 'n, C, S>,
+    frames: &mut MethodFrames<'_, '_, 'n, C>,
 ) -> Result<(), Reason<'n>>
     ensures done { (at : ℕ) → let m = method_view method.now in let f = held frames.old in
         let p = typing_rule m (StoreElement element) in
@@ -98,10 +97,10 @@ pub fn store_element<'n, C: Classes, S: BuildHasher>(
 }
 
 /// `aaload`, by the number of the type of arrays of the class `Object`
-pub fn load_reference_element<'n, C: Classes, S: BuildHasher>(
+pub fn load_reference_element<'n, C: Classes>(
     method: &CodeMethod<'_, '_>,
     object_array: u32,
-    frames: &mut MethodFrames<'_, '_, 'n, C, S>,
+    frames: &mut MethodFrames<'_, '_, 'n, C>,
 ) -> Result<(), Reason<'n>>
     requires { IsNumber frames.old.types object_array objects }
     ensures done { (at : ℕ) → let m = method_view method.now in let f = held frames.old in
@@ -118,11 +117,11 @@ pub fn load_reference_element<'n, C: Classes, S: BuildHasher>(
 }
 
 /// `aastore`, by the numbers of the class `Object` and of the type of arrays of it
-pub fn store_reference_element<'n, C: Classes, S: BuildHasher>(
+pub fn store_reference_element<'n, C: Classes>(
     method: &CodeMethod<'_, '_>,
     object: u32,
     object_array: u32,
-    frames: &mut MethodFrames<'_, '_, 'n, C, S>,
+    frames: &mut MethodFrames<'_, '_, 'n, C>,
 ) -> Result<(), Reason<'n>>
     requires object { IsNumber frames.old.types object (class object_name) }
     requires array { IsNumber frames.old.types object_array objects }
@@ -156,10 +155,10 @@ fn array_of(element: Primitive) -> u32
 }
 
 /// `newarray`. Its refusals are 66 where it names no primitive type, and those of [`pops`].
-pub fn new_array<'n, C: Classes, S: BuildHasher>(
+pub fn new_array<'n, C: Classes>(
     method: &CodeMethod<'_, '_>,
     element: Option<Primitive>,
-    frames: &mut MethodFrames<'_, '_, 'n, C, S>,
+    frames: &mut MethodFrames<'_, '_, 'n, C>,
 ) -> Result<(), Reason<'n>>
     ensures done { (at : ℕ) → let m = method_view method.now in let f = held frames.old in
         let p = new_array element in

@@ -25,17 +25,16 @@ use classfile::CodeMethod;
 use hierarchy::{Answer, Classes};
 use method_frames::MethodFrames;
 use rules::Reason;
-use std::hash::BuildHasher;
 use type_numbers::{ConstantTable, MethodNumbers};
 
 /// A call of a method of these types, with its arguments on a receiver, if it has one. Its refusals are 61 and 62,
 /// those of [`judge_left`](crate::judge_left), and 1 where memory runs out.
-fn calls<'n, C: Classes, S: BuildHasher>(
+fn calls<'n, C: Classes>(
     method: &CodeMethod<'_, '_>,
     called: MethodNumbers,
     receiver: Option<u32>,
     table: &ConstantTable,
-    frames: &mut MethodFrames<'_, '_, 'n, C, S>,
+    frames: &mut MethodFrames<'_, '_, 'n, C>,
 ) -> Result<(), Reason<'n>>
     requires types { (t : MethodDescriptor) × AreTypes frames.old.types (arguments_of table.now) called t }
     requires receiver { IfSome receiver (IsGiven frames.old.types) }
@@ -110,11 +109,11 @@ fn may_invoke_interface(count: u8, called: NamedMethod) -> bool
 }
 
 /// `invokestatic`. Its refusals are 66, and those of other calls: 61, 62, 65, 77, and 1 where memory runs out.
-pub fn invoke_static<'n, C: Classes, S: BuildHasher>(
+pub fn invoke_static<'n, C: Classes>(
     method: &CodeMethod<'_, '_>,
     index: u16,
     table: &ConstantTable,
-    frames: &mut MethodFrames<'_, '_, 'n, C, S>,
+    frames: &mut MethodFrames<'_, '_, 'n, C>,
 ) -> Result<(), Reason<'n>>
     requires { IsTable frames.old.types (method_view method.now).constant_pool table.now }
     ensures done { (at : ℕ) → let m = method_view method.now in let f = held frames.old in
@@ -133,11 +132,11 @@ pub fn invoke_static<'n, C: Classes, S: BuildHasher>(
 }
 
 /// `invokevirtual`. Its refusals are those of [`invoke_static`].
-pub fn invoke_virtual<'n, C: Classes, S: BuildHasher>(
+pub fn invoke_virtual<'n, C: Classes>(
     method: &CodeMethod<'_, '_>,
     index: u16,
     table: &ConstantTable,
-    frames: &mut MethodFrames<'_, '_, 'n, C, S>,
+    frames: &mut MethodFrames<'_, '_, 'n, C>,
 ) -> Result<(), Reason<'n>>
     requires { IsTable frames.old.types (method_view method.now).constant_pool table.now }
     ensures done { (at : ℕ) → let m = method_view method.now in let f = held frames.old in
@@ -156,12 +155,12 @@ pub fn invoke_virtual<'n, C: Classes, S: BuildHasher>(
 }
 
 /// `invokeinterface`. Its refusals are those of [`invoke_static`].
-pub fn invoke_interface<'n, C: Classes, S: BuildHasher>(
+pub fn invoke_interface<'n, C: Classes>(
     method: &CodeMethod<'_, '_>,
     index: u16,
     count: u8,
     table: &ConstantTable,
-    frames: &mut MethodFrames<'_, '_, 'n, C, S>,
+    frames: &mut MethodFrames<'_, '_, 'n, C>,
 ) -> Result<(), Reason<'n>>
     requires { IsTable frames.old.types (method_view method.now).constant_pool table.now }
     ensures done { (at : ℕ) → let m = method_view method.now in let f = held frames.old in
@@ -180,12 +179,12 @@ pub fn invoke_interface<'n, C: Classes, S: BuildHasher>(
 }
 
 /// A call of the call site that is named, if the class has a bootstrap method for it that may be used.
-fn dynamic_call<'n, C: Classes, S: BuildHasher>(
+fn dynamic_call<'n, C: Classes>(
     method: &CodeMethod<'_, '_>,
     index: u16,
     bootstrapped: bool,
     table: &ConstantTable,
-    frames: &mut MethodFrames<'_, '_, 'n, C, S>,
+    frames: &mut MethodFrames<'_, '_, 'n, C>,
 ) -> Result<(), Reason<'n>>
     requires { IsTable frames.old.types (method_view method.now).constant_pool table.now }
     ensures done { (at : ℕ) → let m = method_view method.now in let f = held frames.old in
@@ -208,12 +207,12 @@ fn dynamic_call<'n, C: Classes, S: BuildHasher>(
 
 /// `invokedynamic`, where such calls are judged; `bootstrapped` says that the class has a bootstrap method for the call
 /// site that may be used. Its refusals are 60, 66 and 90, and those of [`invoke_static`].
-pub fn invoke_dynamic<'n, C: Classes, S: BuildHasher>(
+pub fn invoke_dynamic<'n, C: Classes>(
     method: &CodeMethod<'_, '_>,
     index: u16,
     bootstrapped: bool,
     table: &ConstantTable,
-    frames: &mut MethodFrames<'_, '_, 'n, C, S>,
+    frames: &mut MethodFrames<'_, '_, 'n, C>,
 ) -> Result<(), Reason<'n>>
     requires { IsTable frames.old.types (method_view method.now).constant_pool table.now }
     ensures done { (at : ℕ) → let m = method_view method.now in let f = held frames.old in

@@ -24,7 +24,6 @@ use hierarchy::Classes;
 use insn::Kind;
 use method_frames::MethodFrames;
 use rules::Reason;
-use std::hash::BuildHasher;
 use type_numbers::{ConstantTable, Parts};
 
 /// The sizes of the most dimensions that an array has.
@@ -45,12 +44,12 @@ fn sizes(count: u8) -> &'static [Kind]
 }
 
 /// `checkcast`, by the number of the class `Object`. Its refusals are 66, and those of [`pops`].
-pub fn check_cast<'n, C: Classes, S: BuildHasher>(
+pub fn check_cast<'n, C: Classes>(
     method: &CodeMethod<'_, '_>,
     index: u16,
     object: u32,
     table: &ConstantTable,
-    frames: &mut MethodFrames<'_, '_, 'n, C, S>,
+    frames: &mut MethodFrames<'_, '_, 'n, C>,
 ) -> Result<(), Reason<'n>>
     requires object { IsNumber frames.old.types object (class object_name) }
     requires table { IsTable frames.old.types (method_view method.now).constant_pool table.now }
@@ -66,12 +65,12 @@ pub fn check_cast<'n, C: Classes, S: BuildHasher>(
 }
 
 /// `instanceof`, by the number of the class `Object`. Its refusals are 66, and those of [`pops`].
-pub fn instance_of<'n, C: Classes, S: BuildHasher>(
+pub fn instance_of<'n, C: Classes>(
     method: &CodeMethod<'_, '_>,
     index: u16,
     object: u32,
     table: &ConstantTable,
-    frames: &mut MethodFrames<'_, '_, 'n, C, S>,
+    frames: &mut MethodFrames<'_, '_, 'n, C>,
 ) -> Result<(), Reason<'n>>
     requires object { IsNumber frames.old.types object (class object_name) }
     requires table { IsTable frames.old.types (method_view method.now).constant_pool table.now }
@@ -87,11 +86,11 @@ pub fn instance_of<'n, C: Classes, S: BuildHasher>(
 }
 
 /// `anewarray`. Its refusals are 66, where it names no type or one of 255 dimensions, and those of [`pops`].
-pub fn new_reference_array<'n, C: Classes, S: BuildHasher>(
+pub fn new_reference_array<'n, C: Classes>(
     method: &CodeMethod<'_, '_>,
     index: u16,
     table: &ConstantTable,
-    frames: &mut MethodFrames<'_, '_, 'n, C, S>,
+    frames: &mut MethodFrames<'_, '_, 'n, C>,
 ) -> Result<(), Reason<'n>>
     requires { IsTable frames.old.types (method_view method.now).constant_pool table.now }
     ensures done { (at : ℕ) → let m = method_view method.now in let f = held frames.old in
@@ -111,12 +110,12 @@ pub fn new_reference_array<'n, C: Classes, S: BuildHasher>(
 
 /// `multianewarray`. Its refusals are 66, where it names no array of so many dimensions, 1 or more, and those of
 /// [`pops`].
-pub fn new_multi_array<'n, C: Classes, S: BuildHasher>(
+pub fn new_multi_array<'n, C: Classes>(
     method: &CodeMethod<'_, '_>,
     index: u16,
     count: u8,
     table: &ConstantTable,
-    frames: &mut MethodFrames<'_, '_, 'n, C, S>,
+    frames: &mut MethodFrames<'_, '_, 'n, C>,
 ) -> Result<(), Reason<'n>>
     requires { IsTable frames.old.types (method_view method.now).constant_pool table.now }
     ensures done { (at : ℕ) → let m = method_view method.now in let f = held frames.old in

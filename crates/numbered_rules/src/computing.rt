@@ -23,12 +23,11 @@ use hierarchy::{Answer, Classes};
 use insn::{Kind, NumericOperator};
 use method_frames::MethodFrames;
 use rules::Reason;
-use std::hash::BuildHasher;
 
 /// `nop`, and what `goto` does to the frame
-pub fn takes_nothing<'n, C: Classes, S: BuildHasher>(
+pub fn takes_nothing<'n, C: Classes>(
     method: &CodeMethod<'_, '_>,
-    frames: &mut MethodFrames<'_, '_, 'n, C, S>,
+    frames: &mut MethodFrames<'_, '_, 'n, C>,
 ) -> Result<(), Reason<'n>>
     ensures done { let m = method_view method.now in let f = held frames.old in
         let p = takes [] in
@@ -39,10 +38,10 @@ pub fn takes_nothing<'n, C: Classes, S: BuildHasher>(
 }
 
 /// Pushes a number of a kind: `iconst_0` and its like
-pub fn gives_number<'n, C: Classes, S: BuildHasher>(
+pub fn gives_number<'n, C: Classes>(
     method: &CodeMethod<'_, '_>,
     kind: Kind,
-    frames: &mut MethodFrames<'_, '_, 'n, C, S>,
+    frames: &mut MethodFrames<'_, '_, 'n, C>,
 ) -> Result<(), Reason<'n>>
     ensures done { let m = method_view method.now in let f = held frames.old in
         let p = gives (number_type kind) in
@@ -53,9 +52,9 @@ pub fn gives_number<'n, C: Classes, S: BuildHasher>(
 }
 
 /// `aconst_null`
-pub fn gives_null<'n, C: Classes, S: BuildHasher>(
+pub fn gives_null<'n, C: Classes>(
     method: &CodeMethod<'_, '_>,
-    frames: &mut MethodFrames<'_, '_, 'n, C, S>,
+    frames: &mut MethodFrames<'_, '_, 'n, C>,
 ) -> Result<(), Reason<'n>>
     ensures done { let m = method_view method.now in let f = held frames.old in
         let p = gives null in
@@ -66,10 +65,10 @@ pub fn gives_null<'n, C: Classes, S: BuildHasher>(
 }
 
 /// Takes numbers and pushes a number: `iadd` and its like
-pub fn computes<'n, C: Classes, S: BuildHasher>(
+pub fn computes<'n, C: Classes>(
     method: &CodeMethod<'_, '_>,
     operator: NumericOperator,
-    frames: &mut MethodFrames<'_, '_, 'n, C, S>,
+    frames: &mut MethodFrames<'_, '_, 'n, C>,
 ) -> Result<(), Reason<'n>>
     ensures done { let m = method_view method.now in let f = held frames.old in
         let p = pops (numbers (numeric_row operator).taken) (number_type (numeric_row operator).given ∷ []) [] true in
@@ -81,9 +80,9 @@ pub fn computes<'n, C: Classes, S: BuildHasher>(
 }
 
 /// Takes an `int` that is compared with 0, or is the key of a switch.
-pub fn takes_int<'n, C: Classes, S: BuildHasher>(
+pub fn takes_int<'n, C: Classes>(
     method: &CodeMethod<'_, '_>,
-    frames: &mut MethodFrames<'_, '_, 'n, C, S>,
+    frames: &mut MethodFrames<'_, '_, 'n, C>,
 ) -> Result<(), Reason<'n>>
     ensures done { let m = method_view method.now in let f = held frames.old in
         let p = takes (number Int ∷ []) in
@@ -94,9 +93,9 @@ pub fn takes_int<'n, C: Classes, S: BuildHasher>(
 }
 
 /// Takes two values of type `int`, which are compared.
-pub fn takes_ints<'n, C: Classes, S: BuildHasher>(
+pub fn takes_ints<'n, C: Classes>(
     method: &CodeMethod<'_, '_>,
-    frames: &mut MethodFrames<'_, '_, 'n, C, S>,
+    frames: &mut MethodFrames<'_, '_, 'n, C>,
 ) -> Result<(), Reason<'n>>
     ensures done { let m = method_view method.now in let f = held frames.old in
         let p = takes (number Int ∷ number Int ∷ []) in
@@ -108,9 +107,9 @@ pub fn takes_ints<'n, C: Classes, S: BuildHasher>(
 }
 
 /// Takes a reference that is compared with `null`, or whose monitor is entered or left.
-pub fn takes_reference<'n, C: Classes, S: BuildHasher>(
+pub fn takes_reference<'n, C: Classes>(
     method: &CodeMethod<'_, '_>,
-    frames: &mut MethodFrames<'_, '_, 'n, C, S>,
+    frames: &mut MethodFrames<'_, '_, 'n, C>,
 ) -> Result<(), Reason<'n>>
     ensures done { let m = method_view method.now in let f = held frames.old in
         let p = takes (any_reference ∷ []) in
@@ -121,9 +120,9 @@ pub fn takes_reference<'n, C: Classes, S: BuildHasher>(
 }
 
 /// Takes two references, which are compared.
-pub fn takes_references<'n, C: Classes, S: BuildHasher>(
+pub fn takes_references<'n, C: Classes>(
     method: &CodeMethod<'_, '_>,
-    frames: &mut MethodFrames<'_, '_, 'n, C, S>,
+    frames: &mut MethodFrames<'_, '_, 'n, C>,
 ) -> Result<(), Reason<'n>>
     ensures done { let m = method_view method.now in let f = held frames.old in
         let p = takes (any_reference ∷ any_reference ∷ []) in
@@ -139,10 +138,10 @@ pub fn takes_references<'n, C: Classes, S: BuildHasher>(
 }
 
 /// `athrow`, by the number of the class `Throwable`
-pub fn throws<'n, C: Classes, S: BuildHasher>(
+pub fn throws<'n, C: Classes>(
     method: &CodeMethod<'_, '_>,
     throwable: u32,
-    frames: &mut MethodFrames<'_, '_, 'n, C, S>,
+    frames: &mut MethodFrames<'_, '_, 'n, C>,
 ) -> Result<(), Reason<'n>>
     requires { IsNumber frames.old.types throwable (class throwable_name) }
     ensures done { let m = method_view method.now in let f = held frames.old in
@@ -154,9 +153,9 @@ pub fn throws<'n, C: Classes, S: BuildHasher>(
 }
 
 /// `arraylength`
-pub fn array_length<'n, C: Classes, S: BuildHasher>(
+pub fn array_length<'n, C: Classes>(
     method: &CodeMethod<'_, '_>,
-    frames: &mut MethodFrames<'_, '_, 'n, C, S>,
+    frames: &mut MethodFrames<'_, '_, 'n, C>,
 ) -> Result<(), Reason<'n>>
     ensures done { let m = method_view method.now in let f = held frames.old in
         let p = pops (any_array ∷ []) (int ∷ []) [] true in
@@ -167,11 +166,11 @@ pub fn array_length<'n, C: Classes, S: BuildHasher>(
 }
 
 /// Pushes the number in a local variable.
-pub fn loads_number<'n, C: Classes, S: BuildHasher>(
+pub fn loads_number<'n, C: Classes>(
     method: &CodeMethod<'_, '_>,
     kind: Kind,
     local: u16,
-    frames: &mut MethodFrames<'_, '_, 'n, C, S>,
+    frames: &mut MethodFrames<'_, '_, 'n, C>,
 ) -> Result<(), Reason<'n>>
     requires { length frames.old.running.locals ≡ method.now.code.now.max_locals }
     ensures done { let m = method_view method.now in let f = held frames.old in
@@ -183,10 +182,10 @@ pub fn loads_number<'n, C: Classes, S: BuildHasher>(
 }
 
 /// Pushes the reference in a local variable.
-pub fn loads_reference<'n, C: Classes, S: BuildHasher>(
+pub fn loads_reference<'n, C: Classes>(
     method: &CodeMethod<'_, '_>,
     local: u16,
-    frames: &mut MethodFrames<'_, '_, 'n, C, S>,
+    frames: &mut MethodFrames<'_, '_, 'n, C>,
 ) -> Result<(), Reason<'n>>
     requires { length frames.old.running.locals ≡ method.now.code.now.max_locals }
     ensures done { let m = method_view method.now in let f = held frames.old in
@@ -198,11 +197,11 @@ pub fn loads_reference<'n, C: Classes, S: BuildHasher>(
 }
 
 /// A number on top of the stack to a local variable.
-pub fn stores_number<'n, C: Classes, S: BuildHasher>(
+pub fn stores_number<'n, C: Classes>(
     method: &CodeMethod<'_, '_>,
     kind: Kind,
     local: u16,
-    frames: &mut MethodFrames<'_, '_, 'n, C, S>,
+    frames: &mut MethodFrames<'_, '_, 'n, C>,
 ) -> Result<(), Reason<'n>>
     requires { length frames.old.running.locals ≡ method.now.code.now.max_locals }
     ensures done { let m = method_view method.now in let f = held frames.old in
@@ -214,10 +213,10 @@ pub fn stores_number<'n, C: Classes, S: BuildHasher>(
 }
 
 /// A reference on top of the stack to a local variable.
-pub fn stores_reference<'n, C: Classes, S: BuildHasher>(
+pub fn stores_reference<'n, C: Classes>(
     method: &CodeMethod<'_, '_>,
     local: u16,
-    frames: &mut MethodFrames<'_, '_, 'n, C, S>,
+    frames: &mut MethodFrames<'_, '_, 'n, C>,
 ) -> Result<(), Reason<'n>>
     requires { length frames.old.running.locals ≡ method.now.code.now.max_locals }
     ensures done { let m = method_view method.now in let f = held frames.old in

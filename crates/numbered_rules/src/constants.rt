@@ -20,18 +20,17 @@ use hierarchy::Classes;
 use method_frames::{MethodFrames, is_wide};
 use pool::Constant;
 use rules::Reason;
-use std::hash::BuildHasher;
 use type_numbers::ConstantTable;
 
 /// Pushes the value of a Dynamic constant of the type of a number, which takes two units where `wide` says so: 66 where
 /// there is no type or it takes another number of units, and 90 where the class has no bootstrap method for the
 /// constant that may be used.
-fn gives_computed<'n, C: Classes, S: BuildHasher>(
+fn gives_computed<'n, C: Classes>(
     method: &CodeMethod<'_, '_>,
     wide: bool,
     computed: Option<u32>,
     bootstrapped: bool,
-    frames: &mut MethodFrames<'_, '_, 'n, C, S>,
+    frames: &mut MethodFrames<'_, '_, 'n, C>,
 ) -> Result<(), Reason<'n>>
     requires { (t : Option FieldDescriptor) × IsNumberOf frames.old.types computed (option_map descriptor_type t) }
     ensures done { (at : ℕ) (t : Option FieldDescriptor)
@@ -55,13 +54,13 @@ fn gives_computed<'n, C: Classes, S: BuildHasher>(
 }
 
 /// Loads a Dynamic constant, 60 where such constants are not judged; 66 where another constant stands at the index.
-fn loads_computed<'n, C: Classes, S: BuildHasher>(
+fn loads_computed<'n, C: Classes>(
     method: &CodeMethod<'_, '_>,
     wide: bool,
     index: u16,
     bootstrapped: bool,
     table: &ConstantTable,
-    frames: &mut MethodFrames<'_, '_, 'n, C, S>,
+    frames: &mut MethodFrames<'_, '_, 'n, C>,
 ) -> Result<(), Reason<'n>>
     requires table { IsTable frames.old.types (method_view method.now).constant_pool table.now }
     requires bootstrapped { let m = method_view method.now in
@@ -89,13 +88,13 @@ fn loads_computed<'n, C: Classes, S: BuildHasher>(
 }
 
 /// Loads a constant, which takes two units where `wide` says so.
-fn loads_constant<'n, C: Classes, S: BuildHasher>(
+fn loads_constant<'n, C: Classes>(
     method: &CodeMethod<'_, '_>,
     wide: bool,
     index: u16,
     bootstrapped: bool,
     table: &ConstantTable,
-    frames: &mut MethodFrames<'_, '_, 'n, C, S>,
+    frames: &mut MethodFrames<'_, '_, 'n, C>,
 ) -> Result<(), Reason<'n>>
     requires table { IsTable frames.old.types (method_view method.now).constant_pool table.now }
     requires bootstrapped { let m = method_view method.now in
@@ -115,12 +114,12 @@ fn loads_constant<'n, C: Classes, S: BuildHasher>(
 }
 
 /// `ldc` and `ldc_w`. Its refusals are 60, 66 and 90, and those of [`gives`].
-pub fn load_constant<'n, C: Classes, S: BuildHasher>(
+pub fn load_constant<'n, C: Classes>(
     method: &CodeMethod<'_, '_>,
     index: u16,
     bootstrapped: bool,
     table: &ConstantTable,
-    frames: &mut MethodFrames<'_, '_, 'n, C, S>,
+    frames: &mut MethodFrames<'_, '_, 'n, C>,
 ) -> Result<(), Reason<'n>>
     requires table { IsTable frames.old.types (method_view method.now).constant_pool table.now }
     requires bootstrapped { let m = method_view method.now in
@@ -134,12 +133,12 @@ pub fn load_constant<'n, C: Classes, S: BuildHasher>(
 }
 
 /// `ldc2_w`. Its refusals are those of [`load_constant`].
-pub fn load_wide_constant<'n, C: Classes, S: BuildHasher>(
+pub fn load_wide_constant<'n, C: Classes>(
     method: &CodeMethod<'_, '_>,
     index: u16,
     bootstrapped: bool,
     table: &ConstantTable,
-    frames: &mut MethodFrames<'_, '_, 'n, C, S>,
+    frames: &mut MethodFrames<'_, '_, 'n, C>,
 ) -> Result<(), Reason<'n>>
     requires table { IsTable frames.old.types (method_view method.now).constant_pool table.now }
     requires bootstrapped { let m = method_view method.now in

@@ -28,7 +28,6 @@ use frames::Starts;
 use hierarchy::{Answer, Classes};
 use method_frames::{MethodFrames, OWN_OBJECT, is_object};
 use rules::Reason;
-use std::hash::BuildHasher;
 
 /// The number of the class that the `new` at an offset makes an object of, if there is one.
 fn class_made_at(at: u16, body: &Body<'_, '_>) -> Option<u32>
@@ -90,10 +89,10 @@ fn class_after(class: u32, object: u32, numbers: &RuleNumbers<'_>) -> u32
 }
 
 /// A constructor of a class that is not an array, with its arguments on the object.
-fn constructs<'n, C: Classes, S: BuildHasher>(
+fn constructs<'n, C: Classes>(
     body: &Body<'_, '_>,
     called: NamedMethod,
-    frames: &mut MethodFrames<'_, '_, 'n, C, S>,
+    frames: &mut MethodFrames<'_, '_, 'n, C>,
 ) -> Result<(), Reason<'n>>
     requires numbers { AreRuleNumbers frames.old.types (method_view body.now.method.now) body.now.numbers }
     requires called { (c : MethodConstant) × IsMethod frames.old.types (arguments_of body.now.numbers.table.now) called c
@@ -134,10 +133,10 @@ fn may_name_constructor(called: NamedMethod) -> bool
 
 /// `invokespecial` of a constructor. Its refusals are 66 where it may not name the constructor, 61 and 62 where the
 /// arguments or the object beneath them are not those of its rule, 65, 77, and 1 where memory runs out.
-pub fn invoke_constructor<'n, C: Classes, S: BuildHasher>(
+pub fn invoke_constructor<'n, C: Classes>(
     body: &Body<'_, '_>,
     called: NamedMethod,
-    frames: &mut MethodFrames<'_, '_, 'n, C, S>,
+    frames: &mut MethodFrames<'_, '_, 'n, C>,
 ) -> Result<(), Reason<'n>>
     requires numbers { AreRuleNumbers frames.old.types (method_view body.now.method.now) body.now.numbers }
     requires called { (c : MethodConstant)

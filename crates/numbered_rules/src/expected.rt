@@ -12,7 +12,6 @@ use crate::kinds::number_of;
 use hierarchy::{Answer, Classes};
 use insn::{Kind, takes_array};
 use names::Primitive;
-use std::hash::BuildHasher;
 use type_numbers::{Parts, TypeNumbers, element_at};
 
 /// The expected type of an operand or a local variable (JVMS 4.10.1.9). A number of some kind is a type that is
@@ -98,11 +97,7 @@ impl Expected {
     }
 
     /// Whether the type of a number meets it (JVMS 4.10.1.2). Takes no memory.
-    pub fn meets<'n, C: Classes, S: BuildHasher>(
-        self,
-        number: u32,
-        types: &TypeNumbers<'_, 'n, C, S>,
-    ) -> Answer<'n>
+    pub fn meets<'n, C: Classes>(self, number: u32, types: &TypeNumbers<'_, 'n, C>) -> Answer<'n>
         requires expected { IsExpected types.now self }
         requires given { IsGiven types.now number }
         ensures { outcome_of result ≡ accepts_by types.now self (type_by types.now number) }

@@ -20,10 +20,9 @@ use classfile::CodeMethod;
 use hierarchy::{Answer, Classes};
 use method_frames::MethodFrames;
 use rules::Reason;
-use std::hash::BuildHasher;
 
 /// Whether the stack has more units than this.
-fn is_wider<C: Classes, S: BuildHasher>(limit: u16, frames: &MethodFrames<'_, '_, '_, C, S>) -> bool
+fn is_wider<C: Classes>(limit: u16, frames: &MethodFrames<'_, '_, '_, C>) -> bool
     ensures { result ≡ nat_lt limit (units_of (held frames.now).stack) }
 {
     frames.has_units(usize::from(limit) + 1)
@@ -31,10 +30,10 @@ fn is_wider<C: Classes, S: BuildHasher>(limit: u16, frames: &MethodFrames<'_, '_
 
 /// Judges the frame after an instruction: 65 where its stack is wider than max_stack, and 77 where the answer about the
 /// operands is a missing class. The answer is not no.
-pub fn judge_left<'n, C: Classes, S: BuildHasher>(
+pub fn judge_left<'n, C: Classes>(
     method: &CodeMethod<'_, '_>,
     answer: Answer<'n>,
-    frames: &MethodFrames<'_, '_, 'n, C, S>,
+    frames: &MethodFrames<'_, '_, 'n, C>,
 ) -> Result<(), Reason<'n>>
     ensures { let f = held frames.now in
         Done (settled (method_view method.now) (outcome_of answer.entry) f) f f result }
@@ -49,11 +48,11 @@ pub fn judge_left<'n, C: Classes, S: BuildHasher>(
 }
 
 /// Pushes the result of an instruction, and judges the frame after it.
-pub fn give<'n, C: Classes, S: BuildHasher>(
+pub fn give<'n, C: Classes>(
     method: &CodeMethod<'_, '_>,
     answer: Answer<'n>,
     number: u32,
-    frames: &mut MethodFrames<'_, '_, 'n, C, S>,
+    frames: &mut MethodFrames<'_, '_, 'n, C>,
 ) -> Result<(), Reason<'n>>
     requires { IsGiven frames.old.types number }
     ensures done { let f = pushed (type_by frames.old.types number ∷ []) (held frames.old) in
@@ -65,11 +64,11 @@ pub fn give<'n, C: Classes, S: BuildHasher>(
 }
 
 /// Pushes the result of an instruction, if it has one, and judges the frame after it.
-pub fn settle<'n, C: Classes, S: BuildHasher>(
+pub fn settle<'n, C: Classes>(
     method: &CodeMethod<'_, '_>,
     answer: Answer<'n>,
     gives: Option<u32>,
-    frames: &mut MethodFrames<'_, '_, 'n, C, S>,
+    frames: &mut MethodFrames<'_, '_, 'n, C>,
 ) -> Result<(), Reason<'n>>
     requires { IfSome gives (IsGiven frames.old.types) }
     ensures done { let f = pushed (types_given frames.old.types gives) (held frames.old) in
@@ -83,10 +82,10 @@ pub fn settle<'n, C: Classes, S: BuildHasher>(
 }
 
 /// Takes nothing and pushes a result.
-pub fn gives<'n, C: Classes, S: BuildHasher>(
+pub fn gives<'n, C: Classes>(
     method: &CodeMethod<'_, '_>,
     number: u32,
-    frames: &mut MethodFrames<'_, '_, 'n, C, S>,
+    frames: &mut MethodFrames<'_, '_, 'n, C>,
 ) -> Result<(), Reason<'n>>
     requires { IsGiven frames.old.types number }
     ensures done { let s = frames.old.types in let m = method_view method.now in let f = held frames.old in
@@ -99,11 +98,11 @@ pub fn gives<'n, C: Classes, S: BuildHasher>(
 
 /// Pops operands of the expected types, the top one first, and pushes a result (JVMS 4.10.1.9). Its refusals are 61
 /// and 62, those of [`judge_left`], and 1 where memory runs out.
-pub fn pops<'n, A: Asked, C: Classes, S: BuildHasher>(
+pub fn pops<'n, A: Asked, C: Classes>(
     method: &CodeMethod<'_, '_>,
     asked: &[A],
     gives: Option<u32>,
-    frames: &mut MethodFrames<'_, '_, 'n, C, S>,
+    frames: &mut MethodFrames<'_, '_, 'n, C>,
 ) -> Result<(), Reason<'n>>
     requires asked { AreExpected frames.old.types (map A.asked asked.now) }
     requires gives { IfSome gives (IsGiven frames.old.types) }
@@ -124,12 +123,12 @@ pub fn pops<'n, A: Asked, C: Classes, S: BuildHasher>(
 
 /// Pushes a local variable (JVMS 4.10.1.9). Its refusals are 63 and 64, those of [`judge_left`], and 1 where memory
 /// runs out.
-pub fn loads<'n, C: Classes, S: BuildHasher>(
+pub fn loads<'n, C: Classes>(
     method: &CodeMethod<'_, '_>,
     ask: Expected,
     local: u16,
     width: usize,
-    frames: &mut MethodFrames<'_, '_, 'n, C, S>,
+    frames: &mut MethodFrames<'_, '_, 'n, C>,
 ) -> Result<(), Reason<'n>>
     requires locals { length frames.old.running.locals ≡ method.now.code.now.max_locals }
     requires asked { IsExpected frames.old.types ask }
@@ -153,10 +152,10 @@ pub fn loads<'n, C: Classes, S: BuildHasher>(
 }
 
 /// Changes the `int` in a local variable: `iinc` (JVMS 4.10.1.9). Its refusals are those of [`loads`] but 1.
-pub fn counts<'n, C: Classes, S: BuildHasher>(
+pub fn counts<'n, C: Classes>(
     method: &CodeMethod<'_, '_>,
     local: u16,
-    frames: &MethodFrames<'_, '_, 'n, C, S>,
+    frames: &MethodFrames<'_, '_, 'n, C>,
 ) -> Result<(), Reason<'n>>
     requires { length frames.now.running.locals ≡ method.now.code.now.max_locals }
     ensures { let m = method_view method.now in let f = held frames.now in let p = counts local in

@@ -17,15 +17,14 @@ use classfile::CodeMethod;
 use hierarchy::Classes;
 use method_frames::MethodFrames;
 use rules::Reason;
-use std::hash::BuildHasher;
 use type_numbers::ConstantTable;
 
 /// `getstatic`. Its refusals are 66, and those of [`gives`].
-pub fn get_static<'n, C: Classes, S: BuildHasher>(
+pub fn get_static<'n, C: Classes>(
     method: &CodeMethod<'_, '_>,
     index: u16,
     table: &ConstantTable,
-    frames: &mut MethodFrames<'_, '_, 'n, C, S>,
+    frames: &mut MethodFrames<'_, '_, 'n, C>,
 ) -> Result<(), Reason<'n>>
     requires { IsTable frames.old.types (method_view method.now).constant_pool table.now }
     ensures done { (at : ℕ) → let m = method_view method.now in let f = held frames.old in
@@ -40,11 +39,11 @@ pub fn get_static<'n, C: Classes, S: BuildHasher>(
 }
 
 /// `putstatic`. Its refusals are 66, and those of [`pops`].
-pub fn put_static<'n, C: Classes, S: BuildHasher>(
+pub fn put_static<'n, C: Classes>(
     method: &CodeMethod<'_, '_>,
     index: u16,
     table: &ConstantTable,
-    frames: &mut MethodFrames<'_, '_, 'n, C, S>,
+    frames: &mut MethodFrames<'_, '_, 'n, C>,
 ) -> Result<(), Reason<'n>>
     requires { IsTable frames.old.types (method_view method.now).constant_pool table.now }
     ensures done { (at : ℕ) → let m = method_view method.now in let f = held frames.old in
@@ -59,11 +58,11 @@ pub fn put_static<'n, C: Classes, S: BuildHasher>(
 }
 
 /// `getfield`. Its refusals are 66, and those of [`pops`].
-pub fn get_field<'n, C: Classes, S: BuildHasher>(
+pub fn get_field<'n, C: Classes>(
     method: &CodeMethod<'_, '_>,
     index: u16,
     table: &ConstantTable,
-    frames: &mut MethodFrames<'_, '_, 'n, C, S>,
+    frames: &mut MethodFrames<'_, '_, 'n, C>,
 ) -> Result<(), Reason<'n>>
     requires { IsTable frames.old.types (method_view method.now).constant_pool table.now }
     ensures done { (at : ℕ) → let m = method_view method.now in let f = held frames.old in
@@ -84,12 +83,12 @@ pub fn get_field<'n, C: Classes, S: BuildHasher>(
 
 /// `putfield`; `own` says that a constructor sets a field of the current class, whose own object may then be the one.
 /// Its refusals are 66, and those of [`pops`].
-pub fn put_field<'n, C: Classes, S: BuildHasher>(
+pub fn put_field<'n, C: Classes>(
     method: &CodeMethod<'_, '_>,
     index: u16,
     own: bool,
     table: &ConstantTable,
-    frames: &mut MethodFrames<'_, '_, 'n, C, S>,
+    frames: &mut MethodFrames<'_, '_, 'n, C>,
 ) -> Result<(), Reason<'n>>
     requires own { let m = method_view method.now in own ≡ is_own m (field_at m.constant_pool index) }
     requires table { IsTable frames.old.types (method_view method.now).constant_pool table.now }

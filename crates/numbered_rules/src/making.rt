@@ -16,15 +16,14 @@ use classfile::CodeMethod;
 use hierarchy::{Answer, Classes};
 use method_frames::{MethodFrames, made_object};
 use rules::Reason;
-use std::hash::BuildHasher;
 use type_numbers::ConstantTable;
 
 /// Makes an object of a class at an offset. An object that was made there before is forgotten in the locals, and must
 /// not be on the stack.
-fn makes<'n, C: Classes, S: BuildHasher>(
+fn makes<'n, C: Classes>(
     method: &CodeMethod<'_, '_>,
     at: u16,
-    frames: &mut MethodFrames<'_, '_, 'n, C, S>,
+    frames: &mut MethodFrames<'_, '_, 'n, C>,
 ) -> Result<(), Reason<'n>>
     ensures done { (name : List ℕ) → let m = method_view method.now in let f = held frames.old in let p = makes name in
         Done (conditions frames.old.types.classes m at p f) (after m at p f) (held frames.new) result }
@@ -39,12 +38,12 @@ fn makes<'n, C: Classes, S: BuildHasher>(
 
 /// `new` at an offset. Its refusals are 66 where it names no class, 62 where the object that was made there before is on
 /// the stack, 65, and 1 where memory runs out.
-pub fn new_object<'n, C: Classes, S: BuildHasher>(
+pub fn new_object<'n, C: Classes>(
     method: &CodeMethod<'_, '_>,
     at: u16,
     index: u16,
     table: &ConstantTable,
-    frames: &mut MethodFrames<'_, '_, 'n, C, S>,
+    frames: &mut MethodFrames<'_, '_, 'n, C>,
 ) -> Result<(), Reason<'n>>
     requires { IsTable frames.old.types (method_view method.now).constant_pool table.now }
     ensures done { let m = method_view method.now in let f = held frames.old in

@@ -12,13 +12,12 @@ use crate::expected::Asked;
 use frames::both;
 use hierarchy::{Answer, Classes};
 use method_frames::MethodFrames;
-use std::hash::BuildHasher;
 
 /// Takes operands of the expected types off the stack, the top one first. None where there are too few items; then
 /// nothing is said of the items that are left, but that only the running frame changed.
-pub fn take<'n, A: Asked, C: Classes, S: BuildHasher>(
+pub fn take<'n, A: Asked, C: Classes>(
     asked: &[A],
-    frames: &mut MethodFrames<'_, '_, 'n, C, S>,
+    frames: &mut MethodFrames<'_, '_, 'n, C>,
 ) -> Option<Answer<'n>>
     requires { AreExpected frames.old.types (map A.asked asked.now) }
     ensures taken { let s = frames.old.types in

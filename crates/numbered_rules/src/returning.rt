@@ -17,13 +17,12 @@ use hierarchy::{Answer, Classes};
 use insn::Kind;
 use method_frames::MethodFrames;
 use rules::{Reason, number_of_result};
-use std::hash::BuildHasher;
 use type_numbers::Parts;
 
 /// A return without a value, from a method without a result.
-fn returns<'n, C: Classes, S: BuildHasher>(
+fn returns<'n, C: Classes>(
     method: &CodeMethod<'_, '_>,
-    frames: &MethodFrames<'_, '_, 'n, C, S>,
+    frames: &MethodFrames<'_, '_, 'n, C>,
 ) -> Result<(), Reason<'n>>
     ensures { let m = method_view method.now in let f = held frames.now in
         Done (conditions frames.now.types.classes m 0 returns f) (after m 0 returns f) f result }
@@ -36,9 +35,9 @@ fn returns<'n, C: Classes, S: BuildHasher>(
 
 /// `return` (JVMS 4.10.1.9). Its refusals are 76 where the method has a result, 74 where the own object is not
 /// initialized, and 65.
-pub fn return_nothing<'n, C: Classes, S: BuildHasher>(
+pub fn return_nothing<'n, C: Classes>(
     method: &CodeMethod<'_, '_>,
-    frames: &MethodFrames<'_, '_, 'n, C, S>,
+    frames: &MethodFrames<'_, '_, 'n, C>,
 ) -> Result<(), Reason<'n>>
     ensures { (at : ℕ) → let m = method_view method.now in let f = held frames.now in
         let p = return_nothing m.type.result in
@@ -52,10 +51,10 @@ pub fn return_nothing<'n, C: Classes, S: BuildHasher>(
 
 /// `ireturn` and its like. Its refusals are 76 where the method's result is no number of the kind, and those of
 /// [`pops`].
-pub fn return_number<'n, C: Classes, S: BuildHasher>(
+pub fn return_number<'n, C: Classes>(
     method: &CodeMethod<'_, '_>,
     kind: Kind,
-    frames: &mut MethodFrames<'_, '_, 'n, C, S>,
+    frames: &mut MethodFrames<'_, '_, 'n, C>,
 ) -> Result<(), Reason<'n>>
     ensures done { (at : ℕ) → let m = method_view method.now in let f = held frames.old in
         let p = return_number m.type.result kind in
@@ -74,10 +73,10 @@ pub fn return_number<'n, C: Classes, S: BuildHasher>(
 
 /// `areturn`, by the number of the type of the method's result. Its refusals are 76 where that is no reference, and
 /// those of [`pops`].
-pub fn return_reference<'n, C: Classes, S: BuildHasher>(
+pub fn return_reference<'n, C: Classes>(
     method: &CodeMethod<'_, '_>,
     returned: Option<u32>,
-    frames: &mut MethodFrames<'_, '_, 'n, C, S>,
+    frames: &mut MethodFrames<'_, '_, 'n, C>,
 ) -> Result<(), Reason<'n>>
     requires { IsNumberOf frames.old.types returned (option_map descriptor_type (method_view method.now).type.result) }
     ensures done { (at : ℕ) → let m = method_view method.now in let f = held frames.old in

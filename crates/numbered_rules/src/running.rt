@@ -35,19 +35,18 @@ use hierarchy::Classes;
 use insn::Act;
 use method_frames::MethodFrames;
 use rules::Reason;
-use std::hash::BuildHasher;
 
 /// Runs the instruction at an offset on the running frame, in place, by its rule (JVMS 4.10.1.9). The frame has
 /// max_locals locals, and the facts are those of what the instruction names.
 ///
 /// The instruction is refused with the least number of its rule that holds (60 to 66, 74, 76, 77, 90), or with 1 where
 /// memory ran out; then nothing is said of the frame but how many locals it has.
-pub fn run<'n, C: Classes, S: BuildHasher>(
+pub fn run<'n, C: Classes>(
     body: &Body<'_, '_>,
     at: u16,
     act: &Act<'_>,
     facts: NamedFacts,
-    frames: &mut MethodFrames<'_, '_, 'n, C, S>,
+    frames: &mut MethodFrames<'_, '_, 'n, C>,
 ) -> Result<(), Reason<'n>>
     requires locals { length frames.old.running.locals ≡ body.now.method.now.code.now.max_locals }
     requires numbers { AreRuleNumbers frames.old.types (method_view body.now.method.now) body.now.numbers }
@@ -103,11 +102,11 @@ pub fn run<'n, C: Classes, S: BuildHasher>(
 }
 
 /// Runs a plain instruction (see [`is_plain`](rules::is_plain)) as [`run`] does.
-pub fn run_plain<'n, C: Classes, S: BuildHasher>(
+pub fn run_plain<'n, C: Classes>(
     method: &CodeMethod<'_, '_>,
     act: &Act<'_>,
     numbers: &RuleNumbers<'_>,
-    frames: &mut MethodFrames<'_, '_, 'n, C, S>,
+    frames: &mut MethodFrames<'_, '_, 'n, C>,
 ) -> Result<(), Reason<'n>>
     requires locals { length frames.old.running.locals ≡ method.now.code.now.max_locals }
     requires numbers { AreRuleNumbers frames.old.types (method_view method.now) numbers.now }

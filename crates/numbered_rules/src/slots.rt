@@ -11,12 +11,11 @@ use crate::kinds::TOP;
 use hierarchy::Classes;
 use method_frames::{MethodFrames, is_wide};
 use std::alloc::AllocError;
-use std::hash::BuildHasher;
 
 /// Where the local before this place holds a long or double, it becomes top.
-fn free_half<C: Classes, S: BuildHasher>(
+fn free_half<C: Classes>(
     place: usize,
-    frames: &mut MethodFrames<'_, '_, '_, C, S>,
+    frames: &mut MethodFrames<'_, '_, '_, C>,
 ) -> Result<(), AllocError>
     requires { place < length frames.old.running.locals }
     ensures ok { let f = held frames.old in
@@ -34,10 +33,10 @@ fn free_half<C: Classes, S: BuildHasher>(
 
 /// Stores a type to a local variable (JVMS 4.10.1.2). A long or double makes the next one top; where the one before
 /// held a long or double, that becomes top.
-pub fn store<C: Classes, S: BuildHasher>(
+pub fn store<C: Classes>(
     number: u32,
     place: usize,
-    frames: &mut MethodFrames<'_, '_, '_, C, S>,
+    frames: &mut MethodFrames<'_, '_, '_, C>,
 ) -> Result<(), AllocError>
     requires place { place < length frames.old.running.locals }
     requires given { IsGiven frames.old.types number }

@@ -26,17 +26,16 @@ use frames::both;
 use hierarchy::{Answer, Classes};
 use method_frames::MethodFrames;
 use rules::Reason;
-use std::hash::BuildHasher;
 use type_numbers::ConstantTable;
 
 /// A method that is not a constructor, of a class that the current class is assignable to, called on an object of the
 /// current class, which has a number.
-fn calls_special<'n, C: Classes, S: BuildHasher>(
+fn calls_special<'n, C: Classes>(
     method: &CodeMethod<'_, '_>,
     called: NamedMethod,
     me: u32,
     table: &ConstantTable,
-    frames: &mut MethodFrames<'_, '_, 'n, C, S>,
+    frames: &mut MethodFrames<'_, '_, 'n, C>,
 ) -> Result<(), Reason<'n>>
     requires called { (c : MethodConstant) × IsMethod frames.old.types (arguments_of table.now) called c }
     requires me { IsNumber frames.old.types me (class (method_view method.now).class) }
@@ -69,12 +68,12 @@ fn may_call_special(major: u16, called: NamedMethod) -> bool
 }
 
 /// `invokespecial` of a method that is not a constructor.
-fn call_special<'n, C: Classes, S: BuildHasher>(
+fn call_special<'n, C: Classes>(
     method: &CodeMethod<'_, '_>,
     called: NamedMethod,
     me: u32,
     table: &ConstantTable,
-    frames: &mut MethodFrames<'_, '_, 'n, C, S>,
+    frames: &mut MethodFrames<'_, '_, 'n, C>,
 ) -> Result<(), Reason<'n>>
     requires called { (c : MethodConstant) × IsMethod frames.old.types (arguments_of table.now) called c }
     requires me { IsNumber frames.old.types me (class (method_view method.now).class) }
@@ -94,10 +93,10 @@ fn call_special<'n, C: Classes, S: BuildHasher>(
 /// `invokespecial`. Its refusals are 66 where it may not name the method, or the current class is not assignable to that
 /// of a method that is not a constructor; 61 and 62 where the arguments or the object beneath them are not those of its
 /// rule; 65, 77, and 1 where memory runs out.
-pub fn invoke_special<'n, C: Classes, S: BuildHasher>(
+pub fn invoke_special<'n, C: Classes>(
     body: &Body<'_, '_>,
     index: u16,
-    frames: &mut MethodFrames<'_, '_, 'n, C, S>,
+    frames: &mut MethodFrames<'_, '_, 'n, C>,
 ) -> Result<(), Reason<'n>>
     requires { AreRuleNumbers frames.old.types (method_view body.now.method.now) body.now.numbers }
     ensures done { (at : ℕ) → let m = method_view body.now.method.now in let f = held frames.old in

@@ -18,7 +18,6 @@ use hierarchy::{Answer, Classes};
 use insn::{StackForm, StackOperator, StackPlace};
 use method_frames::{MethodFrames, is_wide};
 use rules::{Reason, units_taken};
-use std::hash::BuildHasher;
 use type_numbers::Parts;
 
 /// Whether a type takes one unit and is not top, by the parts of its number.
@@ -39,10 +38,7 @@ fn fits_place(place: StackPlace, number: u32) -> bool
 }
 
 /// Whether the stack fits these places, the top first.
-fn fits_places<C: Classes, S: BuildHasher>(
-    places: &[StackPlace],
-    frames: &MethodFrames<'_, '_, '_, C, S>,
-) -> bool
+fn fits_places<C: Classes>(places: &[StackPlace], frames: &MethodFrames<'_, '_, '_, C>) -> bool
     ensures { result ≡ fits_places places.now (held frames.now).stack }
 {
     for above in 0..places.len() {
@@ -57,9 +53,9 @@ fn fits_places<C: Classes, S: BuildHasher>(
 }
 
 /// The first form that the stack fits.
-fn form_for<C: Classes, S: BuildHasher>(
+fn form_for<C: Classes>(
     forms: &'static [StackForm],
-    frames: &MethodFrames<'_, '_, '_, C, S>,
+    frames: &MethodFrames<'_, '_, '_, C>,
 ) -> Option<StackForm>
     ensures { option_map stack_form_view result ≡ form_for (map stack_form_view forms.now) (held frames.now).stack }
 {
@@ -73,10 +69,10 @@ fn form_for<C: Classes, S: BuildHasher>(
 
 /// An instruction that moves what is on the stack (JVMS 2.11.6, 4.10.1.9). Its refusals are 61 and 62, 65 where the
 /// stack is then wider than max_stack, and 1 where memory runs out; nothing is left on the stack then.
-pub fn rearranges<'n, C: Classes, S: BuildHasher>(
+pub fn rearranges<'n, C: Classes>(
     method: &CodeMethod<'_, '_>,
     operator: StackOperator,
-    frames: &mut MethodFrames<'_, '_, 'n, C, S>,
+    frames: &mut MethodFrames<'_, '_, 'n, C>,
 ) -> Result<(), Reason<'n>>
     ensures done { let m = method_view method.now in let f = held frames.old in
         let p = rearranges (stack_forms operator) in

@@ -15,16 +15,15 @@ use classfile::CodeMethod;
 use hierarchy::{Answer, Classes};
 use method_frames::MethodFrames;
 use rules::Reason;
-use std::hash::BuildHasher;
 
 /// The top of the stack to a local variable (JVMS 4.10.1.9). Its refusals are 61, 62 and 64, those of `judge_left`, and
 /// 1 where memory runs out.
-pub fn stores<'n, C: Classes, S: BuildHasher>(
+pub fn stores<'n, C: Classes>(
     method: &CodeMethod<'_, '_>,
     ask: Expected,
     local: u16,
     width: usize,
-    frames: &mut MethodFrames<'_, '_, 'n, C, S>,
+    frames: &mut MethodFrames<'_, '_, 'n, C>,
 ) -> Result<(), Reason<'n>>
     requires locals { length frames.old.running.locals ≡ method.now.code.now.max_locals }
     requires asked { IsExpected frames.old.types ask }

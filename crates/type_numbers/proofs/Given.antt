@@ -17,11 +17,10 @@ use Rattle.frames.specs.VerificationType.{array, type_of}
 use Rattle.frames.specs.Packing.{slot, slot_of, element_code}
 use Rattle.frames.proofs.SlotTypes.{array_counted as slots_counted}
 use Rattle.type_numbers.specs.Numbers.{Numbering, IsNoted, IsBaseNoted, IsNumber, absent_number, number_by, numbered, class_number}
-use Rattle.type_numbers.proofs.Growing.{names_of}
 use Rattle.type_numbers.proofs.NumberParts.{array_counted, base_noted}
 
 -- an absent class
-pub absent_given : (classes : List ClassFact) (ns : List (Bor (List ℕ))) (name : List ℕ) (dims place : ℕ) (r : Result ℕ AllocError) → place_in classes name ≡ None → position (bytes_eq name) (names_of ns) ≡ Some place → result_ok r ≡ absent_number dims place → IfOk r (λ n. class_number classes (names_of ns) dims name ≡ Some n)
+pub absent_given : (classes : List ClassFact) (ns : List (List ℕ)) (name : List ℕ) (dims place : ℕ) (r : Result ℕ AllocError) → place_in classes name ≡ None → position (bytes_eq name) ns ≡ Some place → result_ok r ≡ absent_number dims place → IfOk r (λ n. class_number classes ns dims name ≡ Some n)
 absent_given classes ns name dims place (Ok n) there at is = ap₂ (number_by dims) there at ∙ sym is
 absent_given classes ns name dims place (Err e) there at is = tt
 

@@ -1,16 +1,14 @@
 -- Names by their places in a list that grows.
-use Rattle.std.proofs.Common.{◌≡◌, ◌∙◌, ℕ, ◌<◌, ◌||◌, Bool, true, false, cond, nat_lt, List, [], ◌∷◌, ◌++◌, map, length, position, Some, None, slice_get, get_or, refl, sym, ap, arith, length-append}
-use Rattle.std.specs.Borrow.{Bor}
+use Rattle.std.proofs.Common.{◌≡◌, ◌∙◌, ℕ, ◌<◌, ◌||◌, Bool, true, false, cond, nat_lt, List, [], ◌∷◌, ◌++◌, length, position, Some, None, slice_get, get_or, refl, sym, ap, arith, length-append}
 use Rattle.std.specs.List.{position_or_len, list_any}
 use Rattle.std.specs.Str.{bytes_eq}
 use Rattle.std.proofs.lemmas.Bool.{ltb-true, true≢false}
 use Rattle.std.proofs.lemmas.Grind.{common_steps}
-use Rattle.std.proofs.lemmas.List.{length-map}
 use Rattle.std.proofs.lemmas.List.Folds.{position_or_len_push}
 use Rattle.std.proofs.lemmas.List.Quantifiers.{position-Some}
 use Rattle.std.proofs.lemmas.Option.{slice_get-get_or}
 use Rattle.std.proofs.lemmas.Slice.Eq.{bytes_eq-Decides}
-use Rattle.hierarchy.proofs.Names.{first_map, none_some, some_same}
+use Rattle.hierarchy.proofs.Names.{none_some, some_same}
 
 -- the name at the place that was found
 pub named_at : (names : List (List ℕ)) (name : List ℕ) (k : ℕ) → position (bytes_eq name) names ≡ Some k → slice_get names k ≡ Some name
@@ -60,37 +58,67 @@ none_within p (x ∷ xs) e = by (p x) refl e (none_within p xs)
     by false h e f = let l = f e in grind (arith, common_steps)
 
 module _ {X : Type 0} (p : X → Bool) (xs : List X) (y : X) where
-  pub keeps : (b : Bool) (k : ℕ) → position p xs ≡ Some k → position p (cond b xs (xs ++ y ∷ [])) ≡ Some k
-  keeps true k e = e
-  keeps false k e = push_keeps p xs y k e
-
-  pushed : list_any p xs ≡ false → p y ≡ true → position p (xs ++ y ∷ []) ≡ Some (position_or_len p xs)
+  pushed : list_any p xs ≡ false → p y ≡ true → position p (xs ++ y ∷ []) ≡ Some (length xs)
   pushed none passes =
       let e = none_within p xs none in
       let l = length-append xs (y ∷ []) in
       let f : position_or_len p (xs ++ y ∷ []) ≡ position_or_len p xs = grind (arith, position_or_len_push p xs y) in
       let h : position_or_len p (xs ++ y ∷ []) < length (xs ++ y ∷ []) = omega arith in
-      at_first p (xs ++ y ∷ []) h ∙ ap (λ m. Some m) f
+      at_first p (xs ++ y ∷ []) h ∙ ap (λ m. Some m) (f ∙ e)
 
-  pub inserted : (b : Bool) → list_any p xs ≡ b → p y ≡ true → position p (cond b xs (xs ++ y ∷ [])) ≡ Some (position_or_len p xs)
-  inserted true any passes = at_first p xs (any_within p xs any)
-  inserted false none passes = pushed none passes
+nowhere : {X : Type 0} (p : X → Bool) (xs : List X) → list_any p xs ≡ false → position p xs ≡ None
+nowhere p xs none =
+    let e = none_within p xs none in
+    grind (arith, common_steps)
 
--- ---- names as they are kept
+any_pushed : {X : Type 0} (p : X → Bool) (xs : List X) (y : X) → list_any p xs ≡ false → p y ≡ false → list_any p (xs ++ y ∷ []) ≡ false
+any_pushed p [] y none fails = ap (λ b. b || false) fails
+any_pushed p (x ∷ xs) y none fails = by (p x) none (any_pushed p xs y)
+  where
+    by : (b : Bool) → (b || list_any p xs) ≡ false → (list_any p xs ≡ false → p y ≡ false → list_any p (xs ++ y ∷ []) ≡ false) → (b || list_any p (xs ++ y ∷ [])) ≡ false
+    by true e f = absurd (true≢false e)
+    by false e f = f e fails
 
-abbrev pub names_of : List (Bor (List ℕ)) → List (List ℕ)
-names_of ks = map (λ (k : Bor (List ℕ)). k.now) ks
+-- an element is pushed that passes where no other does
+push_new : {X : Type 0} (p : X → Bool) (xs : List X) (y : X) (b c : Bool) → list_any p xs ≡ b → p y ≡ c → (b ≡ true → c ≡ false)
+    → position p (xs ++ y ∷ []) ≡ cond c (Some (length xs)) (position p xs)
+push_new p xs y true true any passes apart = absurd (true≢false (apart refl))
+push_new p xs y true false any fails apart =
+    let at = at_first p xs (any_within p xs any) in
+    push_keeps p xs y (position_or_len p xs) at ∙ sym at
+push_new p xs y false true none passes apart = pushed p xs y none passes
+push_new p xs y false false none fails apart = nowhere p (xs ++ y ∷ []) (any_pushed p xs y none fails) ∙ sym (nowhere p xs none)
 
-pub place_of : (name : List ℕ) (ks : List (Bor (List ℕ))) → position (bytes_eq name) (names_of ks) ≡ position (λ (k : Bor (List ℕ)). bytes_eq name k.now) ks
-place_of name ks = λ i. cond (nat_lt (first_map (bytes_eq name) (λ (k : Bor (List ℕ)). k.now) ks i) (length-map ks (λ (k : Bor (List ℕ)). k.now) i)) (Some (first_map (bytes_eq name) (λ (k : Bor (List ℕ)). k.now) ks i)) None
+-- ---- names, each at one place
 
--- the place at which a name was put
-pub put_at : (name : List ℕ) (ks ns : List (Bor (List ℕ))) (key : Bor (List ℕ)) (place : ℕ) → key.now ≡ name → ns ≡ cond (list_any (λ (k : Bor (List ℕ)). bytes_eq name k.now) ks) ks (ks ++ key ∷ []) → place ≡ position_or_len (λ (k : Bor (List ℕ)). bytes_eq name k.now) ks → position (bytes_eq name) (names_of ns) ≡ Some place
-put_at name ks ns key place same new at =
-    let p = λ (k : Bor (List ℕ)). bytes_eq name k.now in
-    place_of name ns ∙ ap (position p) new ∙ inserted p ks key (list_any p ks) refl ((bytes_eq-Decides name key.now).1 (sym same)) ∙ ap (λ m. Some m) (sym at)
+same_either_way : (a b : List ℕ) → bytes_eq a b ≡ bytes_eq b a
+same_either_way a b = by (bytes_eq a b) (bytes_eq b a) refl refl
+  where
+    by : (p q : Bool) → bytes_eq a b ≡ p → bytes_eq b a ≡ q → p ≡ q
+    by true true e f = refl
+    by false false e f = refl
+    by true false e f = absurd (true≢false (sym ((bytes_eq-Decides b a).1 (sym ((bytes_eq-Decides a b).0 e))) ∙ f))
+    by false true e f = absurd (true≢false (sym ((bytes_eq-Decides a b).1 (sym ((bytes_eq-Decides b a).0 f))) ∙ e))
 
-pub names_kept : (ks ns : List (Bor (List ℕ))) (key : Bor (List ℕ)) (b : Bool) → ns ≡ cond b ks (ks ++ key ∷ []) → (name : List ℕ) (k : ℕ) → position (bytes_eq name) (names_of ks) ≡ Some k → position (bytes_eq name) (names_of ns) ≡ Some k
-names_kept ks ns key b new name k e =
-    let p = λ (k : Bor (List ℕ)). bytes_eq name k.now in
-    place_of name ns ∙ ap (position p) new ∙ keeps p ks key b k (sym (place_of name ks) ∙ e)
+-- a name that is not among others is pushed behind them
+pub name_pushed : (names : List (List ℕ)) (name : List ℕ) → position (bytes_eq name) names ≡ None
+    → (other : List ℕ) → position (bytes_eq other) (names ++ name ∷ []) ≡ cond (bytes_eq name other) (Some (length names)) (position (bytes_eq other) names)
+name_pushed names name none other =
+    push_new (bytes_eq other) names name (list_any (bytes_eq other) names) (bytes_eq other name) refl refl apart
+    ∙ ap (λ b. cond b (Some (length names)) (position (bytes_eq other) names)) (same_either_way other name)
+  where
+    apart : list_any (bytes_eq other) names ≡ true → bytes_eq other name ≡ false
+    apart any = by (bytes_eq other name) refl
+      where
+        by : (b : Bool) → bytes_eq other name ≡ b → b ≡ false
+        by false e = refl
+        by true e =
+            let same = (bytes_eq-Decides other name).0 e in
+            absurd (none_some (sym none ∙ ap (λ (n : List ℕ). position (bytes_eq n) names) (sym same) ∙ at_first (bytes_eq other) names (any_within (bytes_eq other) names any)))
+
+-- and then its place is the next one
+pub name_is_last : (names : List (List ℕ)) (name : List ℕ) → position (bytes_eq name) names ≡ None
+    → position (bytes_eq name) (names ++ name ∷ []) ≡ Some (length names)
+name_is_last names name none =
+    name_pushed names name none name
+    ∙ ap (λ b. cond b (Some (length names)) (position (bytes_eq name) names)) ((bytes_eq-Decides name name).1 refl)

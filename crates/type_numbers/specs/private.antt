@@ -2,3 +2,4 @@
 pub mod Readings
 pub mod Entries
 pub mod Deciding
+pub mod Places

@@ -11,7 +11,6 @@ use crate::type_numbers::TypeNumbers;
 use hierarchy::Classes;
 use pool::Pool;
 use std::alloc::{AllocError, Global};
-use std::hash::BuildHasher;
 
 /// The constants of a class as its instructions name them, made once before the class's methods.
 #[derive(Drop)]
@@ -25,10 +24,10 @@ pub struct ConstantTable {
 impl ConstantTable {
     /// The table of the constants of a pool, whose types get numbers. Each text is read once, however many constants
     /// lead to it. The only refusal is 1, where memory runs out.
-    pub fn new<'a, C: Classes, S: BuildHasher>(
+    pub fn new<'a, C: Classes>(
         alloc: Global,
         pool: &Pool<'a>,
-        numbers: &mut TypeNumbers<'_, 'a, C, S>,
+        numbers: &mut TypeNumbers<'_, 'a, C>,
     ) -> Result<ConstantTable, AllocError>
         ensures kept { Extends numbers.old numbers.new }
         ensures described { IfOk result (IsTable numbers.new pool.now) }

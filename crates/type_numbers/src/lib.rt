@@ -2,6 +2,7 @@
 //! included. Proved against the numbers in specs/Numbers.antt. The calls to know are [`TypeNumbers::number`] and
 //! [`TypeNumbers::assignable`].
 //!
+//! - `absent_names`: the names of classes that the hierarchy has not.
 //! - `constant_table`: what the constants of a class are to its instructions.
 //! - `deciding`: comparisons of types by the parts of their numbers.
 //! - `laws`: what holds of numbers and tables.
@@ -14,6 +15,7 @@
 //! - `type_numbers`: the numbers that the types of one class have.
 #![tactic(auto)]
 
+mod absent_names;
 mod constant_table;
 mod deciding;
 pub mod laws;

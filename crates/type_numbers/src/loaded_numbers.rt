@@ -12,7 +12,6 @@ use hierarchy::Classes;
 use names::{CLASS, METHOD_HANDLE, METHOD_TYPE, STRING};
 use pool::Constant;
 use std::alloc::AllocError;
-use std::hash::BuildHasher;
 
 /// The numbers of the classes of which constants load objects (JVMS 4.4, 4.10.1.9).
 #[derive(Clone, Copy)]
@@ -37,8 +36,8 @@ fn tag_number(tag: u8) -> u32
 
 impl LoadedNumbers {
     /// The numbers of these four classes. The only refusal is 1, where memory runs out.
-    pub fn new<'a, C: Classes, S: BuildHasher>(
-        numbers: &mut TypeNumbers<'_, 'a, C, S>,
+    pub fn new<'a, C: Classes>(
+        numbers: &mut TypeNumbers<'_, 'a, C>,
     ) -> Result<LoadedNumbers, AllocError>
         ensures kept { Extends numbers.old numbers.new }
         ensures given { IfOk result (AreLoaded numbers.new) }

@@ -15,7 +15,6 @@ use hierarchy::Classes;
 use names::{FieldType, MethodType, NameFault, Text, method_type};
 use pool::Pool;
 use std::alloc::{AllocError, Global};
-use std::hash::BuildHasher;
 
 /// The numbers of the types that the descriptor of a method names.
 #[derive(Clone, Copy, Debug, PartialEq, Eq)]
@@ -51,10 +50,10 @@ pub struct DescriptorNumbers {
 }
 
 /// Puts the numbers of the types of parameters behind a row.
-fn push_numbers<'a, C: Classes, S: BuildHasher>(
+fn push_numbers<'a, C: Classes>(
     row: &mut Vec<u32>,
     parameters: &[FieldType<'a>],
-    numbers: &mut TypeNumbers<'_, 'a, C, S>,
+    numbers: &mut TypeNumbers<'_, 'a, C>,
 ) -> Result<(), AllocError>
     ensures kept { Extends numbers.old numbers.new }
     ensures pushed { OnOk result ((ns : List ℕ) × (row.new.items ≡ row.old.items ++ ns)
@@ -68,9 +67,9 @@ fn push_numbers<'a, C: Classes, S: BuildHasher>(
 }
 
 /// The number of the type of a result, if there is one.
-fn result_number<'a, C: Classes, S: BuildHasher>(
+fn result_number<'a, C: Classes>(
     returned: Option<FieldType<'a>>,
-    numbers: &mut TypeNumbers<'_, 'a, C, S>,
+    numbers: &mut TypeNumbers<'_, 'a, C>,
 ) -> Result<Option<u32>, AllocError>
     ensures kept { Extends numbers.old numbers.new }
     ensures number { IfOk result (λ n. IsNumberOf numbers.new n
@@ -112,10 +111,10 @@ impl DescriptorNumbers {
     }
 
     /// The numbers of the types of a method, its arguments behind those of all others.
-    fn add<'a, C: Classes, S: BuildHasher>(
+    fn add<'a, C: Classes>(
         &mut self,
         method: &MethodType<'a>,
-        numbers: &mut TypeNumbers<'_, 'a, C, S>,
+        numbers: &mut TypeNumbers<'_, 'a, C>,
     ) -> Result<MethodNumbers, AllocError>
         requires { HasFewUnits method.now }
         ensures kept { Extends numbers.old numbers.new }
@@ -135,12 +134,12 @@ impl DescriptorNumbers {
     }
 
     /// Reads a text and notes what it names.
-    fn read<'a, C: Classes, S: BuildHasher>(
+    fn read<'a, C: Classes>(
         &mut self,
         _pool: &Pool<'a>,
         index: u16,
         text: Text<'a>,
-        numbers: &mut TypeNumbers<'_, 'a, C, S>,
+        numbers: &mut TypeNumbers<'_, 'a, C>,
     ) -> Result<Option<MethodNumbers>, AllocError>
         requires read { AreDescriptors numbers.old _pool.now self.old }
         requires text { text_at _pool.now index ≡ Ok text.bytes.now }
@@ -160,11 +159,11 @@ impl DescriptorNumbers {
 
     /// The numbers of the types that the text at an index of a pool names as the descriptor of a method; none where no
     /// text is there, or it is no such descriptor. The only refusal is 1, where memory runs out.
-    pub fn types<'a, C: Classes, S: BuildHasher>(
+    pub fn types<'a, C: Classes>(
         &mut self,
         pool: &Pool<'a>,
         index: u16,
-        numbers: &mut TypeNumbers<'_, 'a, C, S>,
+        numbers: &mut TypeNumbers<'_, 'a, C>,
     ) -> Result<Option<MethodNumbers>, AllocError>
         requires read { AreDescriptors numbers.old pool.now self.old }
         ensures kept { Extends numbers.old numbers.new }

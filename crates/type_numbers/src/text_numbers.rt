@@ -11,7 +11,6 @@ use hierarchy::Classes;
 use names::{Text, field_type, reference_type};
 use pool::Pool;
 use std::alloc::{AllocError, Global};
-use std::hash::BuildHasher;
 
 /// Where a text stands that names a type.
 #[derive(Clone, Copy, Debug, PartialEq, Eq)]
@@ -72,12 +71,12 @@ impl TextNumbers {
     }
 
     /// Reads a text and notes what it names.
-    fn read<'a, C: Classes, S: BuildHasher>(
+    fn read<'a, C: Classes>(
         &mut self,
         _pool: &Pool<'a>,
         index: u16,
         text: Text<'a>,
-        numbers: &mut TypeNumbers<'_, 'a, C, S>,
+        numbers: &mut TypeNumbers<'_, 'a, C>,
     ) -> Result<Option<u32>, AllocError>
         requires read { AreReadings numbers.old _pool.now self.old }
         requires text { text_at _pool.now index ≡ Ok text.bytes.now }
@@ -97,11 +96,11 @@ impl TextNumbers {
 
     /// The number of the type that the text at an index of a pool names; none where no text is there, or it names no
     /// type. The only refusal is 1, where memory runs out.
-    pub fn number<'a, C: Classes, S: BuildHasher>(
+    pub fn number<'a, C: Classes>(
         &mut self,
         pool: &Pool<'a>,
         index: u16,
-        numbers: &mut TypeNumbers<'_, 'a, C, S>,
+        numbers: &mut TypeNumbers<'_, 'a, C>,
     ) -> Result<Option<u32>, AllocError>
         requires read { AreReadings numbers.old pool.now self.old }
         ensures kept { Extends numbers.old numbers.new }

@@ -19,7 +19,6 @@ use hierarchy::Classes;
 use names::INIT;
 use pool::{Constant, Pool};
 use std::alloc::{AllocError, Global};
-use std::hash::BuildHasher;
 
 /// The texts of a pool as the names of classes and as the descriptors of fields and of methods, as far as they were
 /// read.
@@ -177,10 +176,10 @@ fn method_of(
 
 impl Texts {
     /// No text was read yet, but the classes of which constants load objects have numbers.
-    pub fn new<'a, C: Classes, S: BuildHasher>(
+    pub fn new<'a, C: Classes>(
         alloc: Global,
         pool: &Pool<'a>,
-        numbers: &mut TypeNumbers<'_, 'a, C, S>,
+        numbers: &mut TypeNumbers<'_, 'a, C>,
     ) -> Result<Texts, AllocError>
         ensures kept { Extends numbers.old numbers.new }
         ensures texts { IfOk result (AreTexts numbers.new pool.now) }
@@ -194,11 +193,11 @@ impl Texts {
     }
 
     /// The Class whose name stands at an index.
-    fn class<'a, C: Classes, S: BuildHasher>(
+    fn class<'a, C: Classes>(
         &mut self,
         pool: &Pool<'a>,
         name: u16,
-        numbers: &mut TypeNumbers<'_, 'a, C, S>,
+        numbers: &mut TypeNumbers<'_, 'a, C>,
     ) -> Result<NamedConstant, AllocError>
         requires { AreTexts numbers.old pool.now self.old }
         ensures kept { Extends numbers.old numbers.new }
@@ -211,12 +210,12 @@ impl Texts {
     }
 
     /// The numbers of the types that the name of a class and the descriptor of a field name.
-    fn field_types<'a, C: Classes, S: BuildHasher>(
+    fn field_types<'a, C: Classes>(
         &mut self,
         pool: &Pool<'a>,
         name: u16,
         descriptor: u16,
-        numbers: &mut TypeNumbers<'_, 'a, C, S>,
+        numbers: &mut TypeNumbers<'_, 'a, C>,
     ) -> Result<(Option<u32>, Option<u32>), AllocError>
         requires { AreTexts numbers.old pool.now self.old }
         ensures kept { Extends numbers.old numbers.new }
@@ -231,12 +230,12 @@ impl Texts {
     }
 
     /// The Fieldref that leads to a Class and a NameAndType at these indices.
-    fn field<'a, C: Classes, S: BuildHasher>(
+    fn field<'a, C: Classes>(
         &mut self,
         pool: &Pool<'a>,
         class: u16,
         name_and_type: u16,
-        numbers: &mut TypeNumbers<'_, 'a, C, S>,
+        numbers: &mut TypeNumbers<'_, 'a, C>,
     ) -> Result<NamedConstant, AllocError>
         requires { AreTexts numbers.old pool.now self.old }
         ensures kept { Extends numbers.old numbers.new }
@@ -253,12 +252,12 @@ impl Texts {
     }
 
     /// The numbers of the types that the name of a class and the descriptor of a method name.
-    fn method_types<'a, C: Classes, S: BuildHasher>(
+    fn method_types<'a, C: Classes>(
         &mut self,
         pool: &Pool<'a>,
         name: u16,
         descriptor: u16,
-        numbers: &mut TypeNumbers<'_, 'a, C, S>,
+        numbers: &mut TypeNumbers<'_, 'a, C>,
     ) -> Result<(Option<u32>, Option<MethodNumbers>), AllocError>
         requires { AreTexts numbers.old pool.now self.old }
         ensures kept { Extends numbers.old numbers.new }
@@ -274,13 +273,13 @@ impl Texts {
     }
 
     /// The Methodref or InterfaceMethodref that leads to a Class and a NameAndType at these indices.
-    fn method<'a, C: Classes, S: BuildHasher>(
+    fn method<'a, C: Classes>(
         &mut self,
         pool: &Pool<'a>,
         interface: bool,
         class: u16,
         name_and_type: u16,
-        numbers: &mut TypeNumbers<'_, 'a, C, S>,
+        numbers: &mut TypeNumbers<'_, 'a, C>,
     ) -> Result<NamedConstant, AllocError>
         requires { AreTexts numbers.old pool.now self.old }
         ensures kept { Extends numbers.old numbers.new }
@@ -297,11 +296,11 @@ impl Texts {
     }
 
     /// The Dynamic that leads to a NameAndType at this index, whatever its bootstrap method.
-    fn dynamic<'a, C: Classes, S: BuildHasher>(
+    fn dynamic<'a, C: Classes>(
         &mut self,
         pool: &Pool<'a>,
         name_and_type: u16,
-        numbers: &mut TypeNumbers<'_, 'a, C, S>,
+        numbers: &mut TypeNumbers<'_, 'a, C>,
     ) -> Result<NamedConstant, AllocError>
         requires { AreTexts numbers.old pool.now self.old }
         ensures kept { Extends numbers.old numbers.new }
@@ -318,11 +317,11 @@ impl Texts {
     }
 
     /// The InvokeDynamic that leads to a NameAndType at this index, whatever its bootstrap method.
-    fn call_site<'a, C: Classes, S: BuildHasher>(
+    fn call_site<'a, C: Classes>(
         &mut self,
         pool: &Pool<'a>,
         name_and_type: u16,
-        numbers: &mut TypeNumbers<'_, 'a, C, S>,
+        numbers: &mut TypeNumbers<'_, 'a, C>,
     ) -> Result<NamedConstant, AllocError>
         requires { AreTexts numbers.old pool.now self.old }
         ensures kept { Extends numbers.old numbers.new }
@@ -339,11 +338,11 @@ impl Texts {
     }
 
     /// A constant of the pool as instructions name it. The only refusal is 1, where memory runs out.
-    pub fn constant<'a, C: Classes, S: BuildHasher>(
+    pub fn constant<'a, C: Classes>(
         &mut self,
         pool: &Pool<'a>,
         constant: Constant<'a>,
-        numbers: &mut TypeNumbers<'_, 'a, C, S>,
+        numbers: &mut TypeNumbers<'_, 'a, C>,
     ) -> Result<NamedConstant, AllocError>
         requires { AreTexts numbers.old pool.now self.old }
         ensures kept { Extends numbers.old numbers.new }

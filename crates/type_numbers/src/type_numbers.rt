@@ -1,14 +1,13 @@
 //! The numbers that the types of one class have.
 
+use crate::absent_names::AbsentNames;
 use crate::deciding::decided;
 use crate::parts::{Parts, absent_number, element_at, present_number, uninit_number};
 use frames::{VType, assignable, pack};
 use hierarchy::{Answer, Classes};
-use indexmap::IndexSet;
 use names::Base;
 use std::alloc::{AllocError, Global};
 use std::collections::BTreeMap;
-use std::hash::BuildHasher;
 use std::marker::Model;
 
 /// The numbers of the types that one class at hand names, among the classes of a hierarchy. A number has four bytes,
@@ -19,15 +18,15 @@ use std::marker::Model;
 /// 16,056,320 absent classes; past these, memory is said to run out. Constants cannot name so many: the text of a
 /// descriptor and the constant that leads to it are two of at most 65,534, and it names 256 classes at most.
 #[derive(Drop)]
-pub struct TypeNumbers<'c, 'n, C: Classes, S: BuildHasher> {
+pub struct TypeNumbers<'c, 'n, C: Classes> {
     classes: &'c C,
     /// The absent names that have numbers.
-    absent: IndexSet<&'n [u8], S>,
+    absent: AbsentNames<'n>,
     /// The names in the hierarchy that have numbers, by their places.
     present: BTreeMap<u16, &'n [u8]>,
 }
 
-impl<'c, 'n, C: Classes, S: BuildHasher> Model for TypeNumbers<'c, 'n, C, S> {
+impl<'c, 'n, C: Classes> Model for TypeNumbers<'c, 'n, C> {
     ghost use Rattle.std.specs.Prelude.{◌≡◌, ℕ, List, Some, map, option_map};
     ghost use Rattle.std.specs.BTreeMap.{get};
     ghost use Rattle.std.specs.Ordering.{nat_cmp};
@@ -38,7 +37,7 @@ impl<'c, 'n, C: Classes, S: BuildHasher> Model for TypeNumbers<'c, 'n, C, S> {
 
     ghost view = { λ t. record {
       classes = C.content t.classes.now;
-      absent = map (λ k. k.now) t.absent.keys;
+      absent = t.absent;
       present = map (λ e. (e.0, e.1.now)) t.present.entries;
     } };
 
@@ -47,33 +46,27 @@ impl<'c, 'n, C: Classes, S: BuildHasher> Model for TypeNumbers<'c, 'n, C, S> {
         → place_in (C.content t.classes.now) name ≡ Some place };
 }
 
-impl<'c, 'n, C: Classes, S: BuildHasher + Drop> TypeNumbers<'c, 'n, C, S> {
-    ghost use Rattle.std.specs.Prelude.{◌≡◌, ℕ, None, [], IfOk};
-    ghost use Rattle.type_numbers.specs.Numbers.{IsNumber, Extends};
-    ghost use Rattle.frames.specs.VerificationType.{type_of};
-
-    /// No absent class has a number. Names are found by the hashes of this hasher.
-    pub fn new(alloc: Global, classes: &'c C, hasher: S) -> Self
-        ensures classes { result.classes ≡ C.content classes.now }
-        ensures absent { result.absent ≡ [] }
-        ensures present { result.present ≡ [] }
-    {
-        TypeNumbers {
-            classes,
-            absent: IndexSet::with_hasher(alloc, hasher),
-            present: BTreeMap::new(alloc),
-        }
-    }
-}
-
-impl<'c, 'n, C: Classes, S: BuildHasher> TypeNumbers<'c, 'n, C, S> {
-    ghost use Rattle.std.specs.Prelude.{◌≡◌, ◌-◌, ◌≤◌, ℕ, Some, IfOk, option_map};
+impl<'c, 'n, C: Classes> TypeNumbers<'c, 'n, C> {
+    ghost use Rattle.std.specs.Prelude.{◌≡◌, ◌-◌, ◌≤◌, [], ℕ, Some, IfOk, option_map};
     ghost use Rattle.names.specs.Descriptors.{base_of, dimensioned};
     ghost use Rattle.hierarchy.specs.Answer.{outcome_of};
     ghost use Rattle.frames.specs.Assignable.{type_answer};
     ghost use Rattle.frames.specs.VerificationType.{VerificationType, array, type_of};
     ghost use Rattle.type_numbers.specs.Numbers.{class_number, IsNoted, IsNumber, IsGiven, Extends};
     ghost use Rattle.type_numbers.specs.Decoding.{name_at, type_with, type_at};
+
+    /// No class has a number.
+    pub fn new(alloc: Global, classes: &'c C) -> Self
+        ensures classes { result.classes ≡ C.content classes.now }
+        ensures absent { result.absent ≡ [] }
+        ensures present { result.present ≡ [] }
+    {
+        TypeNumbers {
+            classes,
+            absent: AbsentNames::new(alloc),
+            present: BTreeMap::new(alloc),
+        }
+    }
 
     /// The number of a type. The only refusal is 1, where memory runs out.
     pub fn number(&mut self, vtype: &VType<'n>) -> Result<u32, AllocError>
@@ -112,7 +105,7 @@ impl<'c, 'n, C: Classes, S: BuildHasher> TypeNumbers<'c, 'n, C, S> {
                 Ok(present_number(dims, place))
             }
             None => {
-                let (place, _) = self.absent.insert_full(name)?;
+                let place = self.absent.place(name)?;
                 absent_number(dims, place).ok_or(AllocError)
             }
         }
@@ -126,7 +119,7 @@ impl<'c, 'n, C: Classes, S: BuildHasher> TypeNumbers<'c, 'n, C, S> {
             return self.present.get(&rest).copied();
         }
         let place = usize::from(tag.saturating_sub(10)) * 0x1_0000 + usize::from(rest);
-        self.absent.get_index(place).copied()
+        self.absent.get(place)
     }
 
     /// The class of a name, or an array of so many dimensions of one.

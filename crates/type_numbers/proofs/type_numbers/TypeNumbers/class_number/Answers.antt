@@ -1,7 +1,6 @@
 use Rattle.std.proofs.Common.{◌∙◌, sym, refl}
 use Rattle.hierarchy.proofs.Names.{some_same}
 use Rattle.type_numbers.proofs.Given.{absent_given}
-use Rattle.type_numbers.proofs.Growing.{put_at}
 use Rattle.type_numbers.proofs.Noted.{kept_there, pair_at, still_kept}
 use Rattle.type_numbers.proofs.type_numbers.TypeNumbers.class_number.Goals as goal
 
@@ -19,8 +18,10 @@ returns-in_ok-insert-in-Some-clause-kept g c =
       present = λ q n e. pair_at new q ∙ still_kept (g.C.Classes.content c.self.inside.classes.now) old new c.in-Some.place c.args.name there c.in_ok-insert-in-Some.ensures.updates.0 c.self.invariant q n (sym (pair_at old q) ∙ e);
     })
 
+pub returns-in_err-place-in-None-clause-kept : goal.returns-in_err-place-in-None-clause-kept
+returns-in_err-place-in-None-clause-kept g c = rw (← c.self.view_is) (record { classes = refl; absent = c.place-in-None.ensures.kept; present = λ q n e. e })
+
 pub returns-in_ok-place-in-None-clause-number : goal.returns-in_ok-place-in-None-clause-number
 returns-in_ok-place-in-None-clause-number g c =
-    let put = c.in_ok-place-in-None.ensures in
-    let at = put_at c.args.name.now c.self.inside.absent.keys c.insert_full.new.self.keys c.args.name c.in_ok-place-in-None.place refl put.keys put.index in
-    absent_given (g.C.Classes.content c.self.inside.classes.now) c.insert_full.new.self.keys c.args.name.now c.args.dims c.in_ok-place-in-None.place c.ok_or.result (sym c.place.ensures ∙ c.in-None.is) at (sym c.ok_or.ensures.ok_part ∙ c.absent_number.ensures)
+    absent_given (g.C.Classes.content c.self.inside.classes.now) c.place-in-None.new.self c.args.name.now c.args.dims c.in_ok-place-in-None.place c.ok_or.result
+    (sym c.place.ensures ∙ c.in-None.is) c.in_ok-place-in-None.ensures.at (sym c.ok_or.ensures.ok_part ∙ c.absent_number.ensures)

@@ -1,7 +1,6 @@
 use Rattle.std.proofs.Common.{◌≡◌, ◌∙◌, ◌+◌, ◌*◌, ◌-◌, ap, sym, List, ℕ, arith, slice_get}
 use Rattle.std.specs.Borrow.{Bor}
 use Rattle.std.specs.Option.{option_map}
-use Rattle.std.proofs.lemmas.Option.{slice_get-map}
 use Rattle.type_numbers.specs.Numbers.{Numbering, present_at}
 use Rattle.type_numbers.proofs.Decoded.{present_name, absent_name}
 use Rattle.type_numbers.proofs.Noted.{pair_at}
@@ -15,9 +14,7 @@ returns-then-tag-eq7 g c =
 
 pub returns : goal.returns
 returns g c =
-    let keys = c.self.inside.absent.keys in
     let at : c.from.result * 65536 + c.from-2.result ≡ (c.args.tag - 10) * 65536 + c.args.rest = omega (arith, c.from.ensures, c.from-2.ensures, c.saturating_sub.ensures) in
-    ap (option_map (λ (n : Bor (List ℕ)). n.now)) (c.copied-2.ensures ∙ c.get_index.ensures.key ∙ ap (slice_get keys) at)
-    ∙ sym (slice_get-map (λ (n : Bor (List ℕ)). n.now) keys ((c.args.tag - 10) * 65536 + c.args.rest))
+    c.get-2.ensures ∙ ap (slice_get c.self.inside.absent) at
     ∙ ap (λ (s : Numbering). slice_get s.absent ((c.args.tag - 10) * 65536 + c.args.rest)) c.self.view_is
     ∙ sym (absent_name c.args.self.now c.args.tag c.args.rest c.if-tag-eq7.false)
