@@ -11,8 +11,8 @@ use layout::MAX_CODE_BYTES;
 use names::Base;
 use rules::{
     ClassConstants, Env, ExpectedTypes, Reason, Unmet, Working, branches_by, check_member,
-    constructs_own, first_reason, first_unmet, goes_on, is_plain, keeps_locals, own_class,
-    replaced_object, run, run_plain, stored_to, together, typing_rules_go_as_acts,
+    constructs_own, first_reason, first_unmet, goes_on, is_plain, own_class, run, run_plain,
+    together, typing_rules_go_as_acts,
 };
 use std::alloc::{AllocError, Global};
 use std::test::*;
@@ -22,11 +22,11 @@ use std::test::*;
 enum Asked<'a> {
     /// Whether `clone` may be called on an object of this type.
     Clones(VType<'a>),
-    /// Whether a constructor is called on the own object where this type is on the stack, which is what it initializes.
+    /// Whether a constructor is called on the own object where this type is on the stack.
     Constructs(VType<'a>),
     /// Whether a frame with this type on the stack lacks the one operand that a call of `clone` takes.
     Lacks(VType<'a>),
-    /// Whether an `int` is stored to the last local variable, and what it replaced put back.
+    /// Whether an `int` is stored to the last local variable.
     Stores,
     /// Whether the class is K.
     IsOfK,
@@ -87,7 +87,7 @@ fn clones<'a, C: Classes>(
     clones_in(alloc, env, &mut frame)
 }
 
-/// Whether the constructor of Object is called on the own object, and initializes it.
+/// Whether the constructor of Object is called on the own object.
 fn constructs<'a, C: Classes>(
     alloc: Global,
     env: &Env<'_, '_, 'a, C>,
@@ -96,8 +96,7 @@ fn constructs<'a, C: Classes>(
     let frame = holding(alloc, env, true, object)?;
     let mut constants = ClassConstants::new(alloc, env.method.class, env.classes);
     let named = constants.named(&env.method, &CONSTRUCT)?;
-    let replaced = replaced_object(&env.method, 0, &CONSTRUCT, &named, &frame);
-    Ok(constructs_own(&env.method, &CONSTRUCT, &named, &frame) && replaced == Some(object))
+    Ok(constructs_own(&env.method, &CONSTRUCT, &named, &frame))
 }
 
 /// Whether the frame with this type on the stack lacks the one operand that a call of `clone` of Object takes.
@@ -121,8 +120,7 @@ fn is_unmet<'a, C: Classes>(
     }
 }
 
-/// Whether a store of the `int` on the stack to the local variable 1 is seen there, and the local is top again when
-/// that is put back.
+/// Whether a store of the `int` on the stack to the local variable 1 is seen there.
 fn stores_in<'a, C: Classes>(env: &Env<'_, '_, 'a, C>, frame: &mut Working<'a>) -> Judged<'a> {
     let act = Act::Store {
         kind: Kind::Int,
@@ -132,9 +130,7 @@ fn stores_in<'a, C: Classes>(env: &Env<'_, '_, 'a, C>, frame: &mut Working<'a>) 
         return Ok(false);
     }
     run_plain(&env.method, &act, frame, env.classes)?;
-    let is_there = matches!(frame.local(1), VType::Int) && frame.stack().is_empty();
-    frame.put_back(VType::Top, 1)?;
-    Ok(is_there && matches!(frame.local(1), VType::Top))
+    Ok(matches!(frame.local(1), VType::Int) && frame.stack().is_empty())
 }
 
 fn stores<'a, C: Classes>(alloc: Global, env: &Env<'_, '_, 'a, C>) -> Judged<'a> {
@@ -236,8 +232,6 @@ fn ways_of_acts(rt: HostRuntime) {
     let store = Act::StoreReference { local: 1 };
     typing_rules_go_as_acts();
     assert!(rt; !goes_on(&goto) && goes_on(&call) && goes_on(&store));
-    assert!(rt; keeps_locals(&goto) && !keeps_locals(&call) && !keeps_locals(&store));
-    assert!(rt; stored_to(&store) == Some(1) && stored_to(&goto).is_none());
     assert!(rt; matches!(branches_by(&goto), Branches::One(3)));
     assert!(rt; matches!(branches_by(&call), Branches::Nowhere));
 }

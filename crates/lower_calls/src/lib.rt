@@ -11,7 +11,6 @@
 //! | `packed_frames` | `frames`: types as slots, and frames compared by them |
 //! | `numbered_types` | `type_numbers`: types as numbers, and tables of constants by them |
 //! | `numbered_frames` | `method_frames`: frames by numbers, changed, declared, found, taken on and compared |
-//! | `numbered_instructions` | `numbered_rules`: instructions on frames by numbers |
 //! | `stack_maps`, `declared_frames` | `frames`: stack maps both ways, their frames, and entries at fault |
 //! | `operand_stacks` | `frames`: the operand stack of a running frame, and the objects on it |
 //! | `running_locals` | `frames`: the local variables of a running frame, and the objects in them |
@@ -41,8 +40,6 @@ mod instructions_in_place;
 pub mod making;
 #[cfg(test)]
 mod numbered_frames;
-#[cfg(test)]
-mod numbered_instructions;
 #[cfg(test)]
 mod numbered_types;
 #[cfg(test)]

@@ -1,5 +1,5 @@
 -- An instruction that leaves the locals as they are: by its typing rule, whatever the method.
-use Rattle.std.proofs.Common.{◌≡◌, ℕ, Bool, true, false, Option, Some, None, not, ◌&&◌, nat_lt, nat_eq, [], ◌∷◌, refl, ap, if◌then◌else◌}
+use Rattle.std.proofs.Common.{◌≡◌, ℕ, Bool, true, false, Option, Some, None, not, ◌&&◌, nat_lt, nat_eq, [], ◌∷◌, refl, if◌then◌else◌}
 use Rattle.names.specs.Descriptors.{FieldDescriptor, primitive, class as class_descriptor, array as array_descriptor, field_width}
 use Rattle.names.specs.declared.base.Primitive.{Primitive}
 use Rattle.names.specs.ReferenceTypes.{ReferenceType, is_class_type, descriptor_of, dimensions_of}
@@ -19,8 +19,8 @@ use Rattle.frames.specs.FrameFact.{FrameFact}
 use Rattle.rules.specs.TypingRules.{TypingRule, number, pops, loads, stores, counts, rearranges, loads_element, makes, constructs, calls_special, returns, refuses, gives, sizes, call_of, where_judged, where_allowed, where_bootstrapped}
 use Rattle.rules.specs.Constants.{is_bootstrapped, load_dynamic, load_constant, load_wide_constant, get_static, put_static, get_field, put_field, is_init_name, may_name, has_room_for_receiver, static_call, call_on, may_invoke_interface, invoke_static, invoke_virtual, invoke_interface, is_special_name, dynamic_call, invoke_dynamic, new_array, new_reference_array, new_multi_array, check_cast, instance_of}
 use Rattle.rules.specs.Table.{typing_rule, leaves_with, return_number, return_reference, return_nothing}
-use Rattle.rules.specs.After.{after, stored}
-use Rattle.rules.specs.Ways.{keeps_locals, stored_to}
+use Rattle.rules.specs.After.{after}
+use Rattle.rules.specs.Ways.{keeps_locals}
 
 abbrev pub changes_none : TypingRule → Bool
 changes_none (stores expected n width) = false
@@ -229,52 +229,3 @@ by_typing_rule m acts.Unsupported e = refl
 
 pub locals_kept : (m : Method Act) (at : ℕ) (a : Act) (f : FrameFact) → keeps_locals a ≡ true → (after m at (typing_rule m a) f).locals ≡ f.locals
 locals_kept m at a f e = changed_none m at (typing_rule m a) f (by_typing_rule m a e)
-
--- ---- stores
-
--- an instruction that stores to a local leaves the frame with the top of the stack stored there
-pub stored_by : (m : Method Act) (at : ℕ) (a : Act) (f : FrameFact) (n : ℕ) → stored_to a ≡ Some n → after m at (typing_rule m a) f ≡ stored n f
-stored_by m at acts.Nothing f n e = cc
-stored_by m at (acts.Constant kind) f n e = cc
-stored_by m at acts.ConstantNull f n e = cc
-stored_by m at (acts.LoadConstant i) f n e = cc
-stored_by m at (acts.LoadWideConstant i) f n e = cc
-stored_by m at (acts.Load kind k) f n e = cc
-stored_by m at (acts.LoadReference k) f n e = cc
-stored_by m at (acts.Store kind k) f n e = let q : k ≡ n = cc in ap (λ z. stored z f) q
-stored_by m at (acts.StoreReference k) f n e = let q : k ≡ n = cc in ap (λ z. stored z f) q
-stored_by m at (acts.Increment k) f n e = cc
-stored_by m at (acts.Numeric operator) f n e = cc
-stored_by m at (acts.Stack operator) f n e = cc
-stored_by m at (acts.IfInt offset) f n e = cc
-stored_by m at (acts.IfInts offset) f n e = cc
-stored_by m at (acts.IfReferences offset) f n e = cc
-stored_by m at (acts.IfNull offset) f n e = cc
-stored_by m at (acts.Goto offset) f n e = cc
-stored_by m at (acts.Switch default offsets) f n e = cc
-stored_by m at (acts.Return kind) f n e = cc
-stored_by m at acts.ReturnReference f n e = cc
-stored_by m at acts.ReturnVoid f n e = cc
-stored_by m at (acts.GetStatic i) f n e = cc
-stored_by m at (acts.PutStatic i) f n e = cc
-stored_by m at (acts.GetField i) f n e = cc
-stored_by m at (acts.PutField i) f n e = cc
-stored_by m at (acts.InvokeVirtual i) f n e = cc
-stored_by m at (acts.InvokeSpecial i) f n e = cc
-stored_by m at (acts.InvokeStatic i) f n e = cc
-stored_by m at (acts.InvokeInterface i count) f n e = cc
-stored_by m at (acts.InvokeDynamic i) f n e = cc
-stored_by m at (acts.New i) f n e = cc
-stored_by m at (acts.LoadElement p) f n e = cc
-stored_by m at (acts.StoreElement p) f n e = cc
-stored_by m at acts.LoadReferenceElement f n e = cc
-stored_by m at acts.StoreReferenceElement f n e = cc
-stored_by m at acts.ArrayLength f n e = cc
-stored_by m at (acts.NewArray element) f n e = cc
-stored_by m at (acts.NewReferenceArray i) f n e = cc
-stored_by m at (acts.NewMultiArray i k) f n e = cc
-stored_by m at (acts.CheckCast i) f n e = cc
-stored_by m at (acts.InstanceOf i) f n e = cc
-stored_by m at acts.Throw f n e = cc
-stored_by m at acts.Monitor f n e = cc
-stored_by m at acts.Unsupported f n e = cc

@@ -11,7 +11,6 @@ pub mod Taking
 pub mod Directions
 pub mod FoundOperands
 pub mod Arguments
-pub mod Changing
 pub mod Replaced
 pub mod Constructors
 pub mod SpecialCalls
@@ -24,4 +23,3 @@ pub mod Using
 pub mod TopDown
 pub mod NamedParts
 pub mod Expecting
-pub mod Taken

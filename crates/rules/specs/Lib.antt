@@ -2,7 +2,6 @@ pub mod ReasonNumbers
 pub mod TypingRules
 pub mod Constants
 pub mod Table
-pub mod Taken
 pub mod After
 pub mod Rules
 pub mod Replacing

@@ -32,12 +32,6 @@ keeps_locals (acts.InvokeSpecial i) = false
 keeps_locals (acts.New i) = false
 keeps_locals _ = true
 
--- the local that an instruction stores to, if it does
-abbrev pub stored_to : Act → Option ℕ
-stored_to (acts.Store kind n) = Some n
-stored_to (acts.StoreReference n) = Some n
-stored_to _ = None
-
 -- it goes on to the next one and nowhere else, makes no object of a class, and names no class, field, method, dynamic
 -- constant or call site that is looked up
 abbrev pub is_plain : Act → Bool

@@ -10,8 +10,6 @@
 //! - `environment`: the method, its instructions, and the classes around it.
 //! - `reason`: why an instruction is refused; `merging`: the reasons of two judgements taken together.
 //! - `ways`: where an instruction goes, whether it is plain, and whether it leaves the locals as they are.
-//! - `kept_items`: how many items of the stack an instruction leaves as they are.
-//! - `replacing`: the uninitialized object whose type an instruction replaces in the locals.
 //! - `expected_types`: the expected types of all that an instruction takes; `unmet_expectations`: the first of them that
 //!   a frame does not meet, and the first of which that is not known.
 //!
@@ -73,7 +71,6 @@ mod expected_types;
 mod families;
 mod fields;
 mod guards;
-mod kept_items;
 mod making;
 mod members;
 mod merging;
@@ -82,7 +79,6 @@ mod operands;
 mod own_object;
 mod protected_members;
 mod reason;
-mod replacing;
 mod running;
 mod slots;
 mod special_calls;
@@ -94,24 +90,19 @@ mod working;
 
 pub use applying::{After, Refusal, apply};
 pub use class_constants::ClassConstants;
-pub use declaring_class::own_class;
+pub use declaring_class::{class_name, own_class, superclass_name};
 pub use environment::Env;
 pub use expected::ExpectedType;
 pub use expected_types::{ExpectedLocal, ExpectedTypes};
 pub use families::number_of_result;
-pub use kept_items::{items_kept, items_kept_plainly};
 pub use members::Members;
 pub use merging::{first_reason, together};
 pub use naming::Named;
 pub use own_object::{constructs_own, is_constructor, special_index};
 pub use protected_members::{Use, check_member, check_object, used_by};
 pub use reason::Reason;
-pub use replacing::replaced_object;
 pub use running::{run, run_plain};
 pub use stacks::units_taken;
 pub use unmet_expectations::{Unmet, UnmetOperand, first_unknown, first_unmet, unmet_is_found};
-pub use ways::{
-    branches, branches_by, falls, goes_on, is_plain, keeps_locals, stored_to,
-    typing_rules_go_as_acts,
-};
+pub use ways::{branches, branches_by, falls, goes_on, is_plain, typing_rules_go_as_acts};
 pub use working::Working;

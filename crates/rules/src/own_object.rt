@@ -1,5 +1,5 @@
 //! Whether an instruction calls a constructor on the own object.
-ghost use Rattle.std.specs.Prelude.{◌≡◌, ◌&&◌, ℕ, List, [], not, drop, length, option_map};
+ghost use Rattle.std.specs.Prelude.{◌≡◌, ◌&&◌, ℕ, List, [], not, drop, option_map};
 ghost use Rattle.names.specs.ReferenceTypes.{is_class_type};
 ghost use Rattle.pool.specs.ConstantViews.{method_constant_view};
 ghost use Rattle.insn.specs.Stacks.{beneath};

@@ -3,7 +3,7 @@ ghost use Rattle.std.specs.Prelude.{◌≡◌};
 ghost use Rattle.insn.specs.Meanings.{act};
 ghost use Rattle.insn.specs.Views.{view, act_view};
 ghost use Rattle.rules.specs.WayLaws.{TypingRulesGoAsActs};
-ghost use Rattle.rules.specs.Ways.{goes_on, branch_offsets, keeps_locals, stored_to, is_plain};
+ghost use Rattle.rules.specs.Ways.{goes_on, branch_offsets, is_plain};
 ghost use Rattle.insn.specs.Branching.{branches_view};
 
 use insn::{Act, Branches, Insn, act};
@@ -29,27 +29,6 @@ pub fn goes_on(act: &Act<'_>) -> bool
             | Act::ReturnVoid
             | Act::Throw
     )
-}
-
-/// Whether an instruction with this act leaves all locals as they are. Stores do not, nor do `new` and the calls of
-/// constructors.
-pub fn keeps_locals(act: &Act<'_>) -> bool
-    ensures { result ≡ keeps_locals (act_view act.now) }
-{
-    !matches!(
-        act,
-        Act::Store { .. } | Act::StoreReference { .. } | Act::InvokeSpecial { .. } | Act::New { .. }
-    )
-}
-
-/// The local variable to which an instruction with this act stores, if it stores.
-pub fn stored_to(act: &Act<'_>) -> Option<u16>
-    ensures { result ≡ stored_to (act_view act.now) }
-{
-    match *act {
-        Act::Store { local, .. } | Act::StoreReference { local } => Some(local),
-        _ => None,
-    }
 }
 
 /// Whether an instruction with this act is plain: it goes on to the next one and nowhere else, is not a `new`, and

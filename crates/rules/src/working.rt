@@ -1,13 +1,12 @@
 //! The running frame, which instructions change in place.
 ghost use Rattle.std.specs.Prelude.{◌≡◌, ℕ, map, get_or, length, OnOk, IfSome};
 ghost use Rattle.frames.specs.DeclaredTables.{declared_view, AreKept};
-ghost use Rattle.frames.specs.Locals.{local, locals_in};
-ghost use Rattle.frames.specs.OperandStacks.{stack_in};
+ghost use Rattle.frames.specs.Locals.{local};
 ghost use Rattle.frames.specs.VerificationType.{type_of, top};
 ghost use Rattle.rules.specs.After.{flag_after};
 
 use crate::slots::{is_wide, store};
-use frames::{Declared, Frame, Holder, Locals, OperandStack, StackFitting, VType};
+use frames::{Declared, Frame, Locals, OperandStack, StackFitting, VType};
 use hierarchy::{Answer, Classes};
 use insn::StackForm;
 use std::alloc::{AllocError, Global};
@@ -24,22 +23,19 @@ pub struct Working<'a> {
 }
 
 impl<'a> Working<'a> {
-    ghost use Rattle.std.specs.Prelude.{◌<◌, ◌≤◌, ◌≢◌, ◌↔◌, ℕ, true, false, [], ◌∷◌, IsTrue, nat_lt, length, map, reverse, set, get_or, None, IsSome, MatchOption, OnOk, IfOk, IfSome};
+    ghost use Rattle.std.specs.Prelude.{◌<◌, ◌≤◌, ◌↔◌, ℕ, false, [], ◌∷◌, IsTrue, nat_lt, length, map, reverse, set, get_or, MatchOption, OnOk, IfOk, IfSome};
     ghost use Rattle.frames.specs.Slots.{units_of, is_wide};
     ghost use Rattle.insn.specs.Stacks.{rearranged};
     ghost use Rattle.insn.specs.Views.{stack_form_view};
     ghost use Rattle.frames.specs.FrameFact.{frame_of};
-    ghost use Rattle.rules.specs.After.{forgotten, local_of, top_of, stored_type, with_stack};
+    ghost use Rattle.rules.specs.After.{forgotten, local_of, stored_type, with_stack};
     ghost use Rattle.rules.specs.Replacing.{initialized_frame};
     ghost use Rattle.rules.specs.Rules.{is_on_stack};
     ghost use Rattle.rules.specs.Outcomes.{pushed};
     ghost use Rattle.rules.specs.Views.{stack_of};
     ghost use Rattle.rules.specs.Working.{empty_frame, with_locals};
-    ghost use Rattle.rules.specs.Held.{held, IsHolder};
+    ghost use Rattle.rules.specs.Held.{held};
     ghost use Rattle.frames.specs.HeldFrames.{held_locals, held_frame};
-    ghost use Rattle.frames.specs.Objects.{is_initialized};
-    ghost use Rattle.frames.specs.OperandStacks.{item};
-    ghost use Rattle.frames.specs.Holders.{number_of};
     ghost use Rattle.hierarchy.specs.Answer.{outcome_of};
     ghost use Rattle.frames.specs.Assignable.{type_answer};
     ghost use Rattle.frames.specs.FrameAssignable.{list_answer, frame_answer};
@@ -93,23 +89,6 @@ impl<'a> Working<'a> {
         }
     }
 
-    /// Whether the local variable of this number is a long or a double.
-    pub fn is_wide_at(&self, place: usize) -> bool
-        ensures { result ≡ is_wide (local_of place (held self.now)) }
-    {
-        is_wide(&self.local(place))
-    }
-
-    /// Whether the top of the stack is a long or a double.
-    pub fn has_wide_top(&self) -> bool
-        ensures { result ≡ is_wide (top_of (held self.now).stack) }
-    {
-        match self.stack.types().last() {
-            Some(t) => is_wide(t),
-            None => false,
-        }
-    }
-
     /// Whether the stack has at least so many units.
     pub fn has_units(&self, count: usize) -> bool
         ensures { IsTrue result ↔ (count ≤ units_of (held self.now).stack) }
@@ -139,42 +118,11 @@ impl<'a> Working<'a> {
         self.locals.below(usize::from(self.max_locals))
     }
 
-    /// The place in the list of holders from which the holders of an uninitialized object are found (see
-    /// [`holder`](Working::holder)): the locals that came to hold it.
-    pub fn first_holder(&self, object: &VType<'_>) -> usize
-        ensures { (i : ℕ) → get_or (held self.now).locals i top ≡ type_of object.now
-            → IsSome (number_of (type_of object.now)) → IsHolder self.now result i }
-    {
-        self.locals.first_holder(object)
-    }
-
-    /// The holder at a place in the list, and the place of the next one; none where there are no more.
-    pub fn holder(&self, at: usize) -> Option<Holder>
-        ensures down { IfSome result (λ h. h.next < at) }
-        ensures some { IfSome result (λ h. (i : ℕ) → i ≢ h.place → IsHolder self.now at i
-            → IsHolder self.now h.next i) }
-        ensures none { result ≡ None → (i : ℕ) → IsHolder self.now at i → ⊥ }
-    {
-        self.locals.holder(at)
-    }
-
     /// The stack from the bottom up.
     pub fn stack(&self) -> &[VType<'a>]
         ensures { stack_of result.now ≡ (held self.now).stack }
     {
         self.stack.types()
-    }
-
-    /// How many items of the stack, from the bottom up and at most `limit`, stand in front of the first one that has
-    /// the type of this uninitialized object.
-    pub fn items_before(&self, object: &VType<'_>, limit: usize) -> usize
-        ensures few { result ≤ limit }
-        ensures other { (i : ℕ) → i < result
-            → is_initialized (type_of object.now) (item (held self.now).stack i) ≡ false }
-        ensures first { result < limit
-            → is_initialized (type_of object.now) (item (held self.now).stack result) ≡ true }
-    {
-        self.stack.items_before(object, limit)
     }
 
     /// Begins anew with these locals and nothing on the stack, in the memory that it has.
@@ -241,17 +189,6 @@ impl<'a> Working<'a> {
             ≡ with_locals (held self.old) (stored_type (type_of t.entry) place (held self.old).locals)) }
     {
         store(t, place, usize::from(self.max_locals), &mut self.locals)
-    }
-
-    /// Gives a local variable the type that it had before it was changed, where there is such a local.
-    pub fn put_back(&mut self, t: VType<'a>, place: usize) -> Result<(), AllocError>
-        ensures { OnOk result (held self.new
-            ≡ with_locals (held self.old) (set (held self.old).locals place (type_of t.entry))) }
-    {
-        if usize::from(self.max_locals) <= place {
-            return Ok(());
-        }
-        self.locals.set(place, t)
     }
 
     /// Whether the object that the `new` at this offset has made is on the stack.

@@ -12,12 +12,7 @@ pub mod ToldEntries
 pub mod MapReading
 pub mod Decoded
 pub mod Caught
-pub mod Tracking
-pub mod InTurn
-pub mod Changes
-pub mod Representing
 pub mod TableEntries
-pub mod Comparing
 pub mod Going
 pub mod Ends
 pub mod Plain
@@ -27,8 +22,6 @@ pub mod Detailed
 pub mod Onward
 pub mod Parameters
 pub mod Summaries
-pub mod Kept
-pub mod Replacing
 pub mod MethodCode
 pub mod Named
 pub mod Formed
@@ -38,4 +31,5 @@ pub mod Walking
 pub mod Standings
 pub mod OneMore
 pub mod verdicts
+pub mod numbered
 pub mod examples

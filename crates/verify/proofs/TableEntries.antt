@@ -22,9 +22,9 @@ use Rattle.rules.specs.Reasons.{reason_view}
 use Rattle.machine.proofs.Entries.{onto, onto_entry}
 use Rattle.verify.specs.declared.exceptions.Entry.{Entry}
 use Rattle.verify.specs.TypeSafety.{Frames}
-use Rattle.verify.specs.Verdict.{Verdict, refused, refused_or, answer_conditions, is_end, table_conditions, table_judged}
+use Rattle.verify.specs.Verdict.{answer_conditions, is_end, table_conditions}
 use Rattle.rules.specs.Outcomes.{Judges}
-use Rattle.verify.specs.private.ExceptionTables.{entry_view, IsEntryAt, AreNumbered, has_places, JudgesTable}
+use Rattle.verify.specs.private.ExceptionTables.{entry_view, IsEntryAt, AreNumbered, has_places}
 
 -- ---- as they are made
 
@@ -171,29 +171,3 @@ module _ (classes : List ClassFact) (m : Method Act) (frames : Frames) where
         by : (why ≡ OutOfMemory) ⊎ (least (answer_conditions 72 (throws e)) ≡ Some (reason_view why)) → (why ≡ OutOfMemory) ⊎ (least (table_conditions classes m frames e) ≡ Some (reason_view why))
         by (inl z) = inl z
         by (inr z) = inr (placed q ∙ z)
-
-  -- ---- one after the other
-
-  module _ (table : List Entry) where
-    abbrev judged : ℕ → Verdict → Verdict
-    judged i rest = table_judged classes m frames (map entry_view (drop i table)) rest
-
-    judged_at : (i : ℕ) (d : Entry) (rest : Verdict) → i < length table
-        → judged i rest ≡ refused_or (least (table_conditions classes m frames (entry_view (get_or table i d)))) 0 (judged (i + 1) rest)
-    judged_at i d rest lt = ap (λ z. table_judged classes m frames (map entry_view z) rest) (drop_more table i d lt)
-
-    pub judged_next : (i : ℕ) (d : Entry) (u : Unit {0}) → i < length table → Judges (table_conditions classes m frames (entry_view (get_or table i d))) (Ok u)
-        → ((rest : Verdict) → judged 0 rest ≡ judged i rest) → (rest : Verdict) → judged 0 rest ≡ judged (i + 1) rest
-    judged_next i d u lt j so rest = so rest ∙ judged_at i d rest lt ∙ ap (λ z. refused_or z 0 (judged (i + 1) rest)) j.outcome
-
-    pub judged_stops : (i : ℕ) (d : Entry) (why : Reason) → i < length table → Judges (table_conditions classes m frames (entry_view (get_or table i d))) (Err why)
-        → ((rest : Verdict) → judged 0 rest ≡ judged i rest) → JudgesTable classes m frames (map entry_view table) (Err why)
-    judged_stops i d why lt j so = record { outcome = by j.outcome }
-      where
-        by : (why ≡ OutOfMemory) ⊎ (least (table_conditions classes m frames (entry_view (get_or table i d))) ≡ Some (reason_view why))
-            → (why ≡ OutOfMemory) ⊎ ((rest : Verdict) → table_judged classes m frames (map entry_view table) rest ≡ refused 0 (reason_view why))
-        by (inl z) = inl z
-        by (inr z) = inr (λ rest. so rest ∙ judged_at i d rest lt ∙ ap (λ q. refused_or q 0 (judged (i + 1) rest)) z)
-
-    pub judged_end : (i : ℕ) (u : Unit {0}) → length table ≤ i → ((rest : Verdict) → judged 0 rest ≡ judged i rest) → JudgesTable classes m frames (map entry_view table) (Ok u)
-    judged_end i u le so = record { outcome = λ rest. so rest ∙ ap (λ z. table_judged classes m frames (map entry_view z) rest) (drop_all i table le) }

@@ -1,20 +1,17 @@
 -- Words of the code's own steps, which its private contracts use: nothing that a reader must believe rests on them.
 pub mod AmongSteps
-pub mod Asking
 pub mod Catching
 pub mod EachSteps
 pub mod ExceptionTables
 pub mod FileSteps
-pub mod Handling
 pub mod JudgingSteps
-pub mod Keeping
 pub mod Known
 pub mod MetNames
 pub mod PlaceSets
 pub mod PlaySteps
-pub mod Representatives
 pub mod SameSummaries
 pub mod Targets
 pub mod TogetherSteps
 pub mod Turns
 pub mod Unlike
+pub mod pass

@@ -1,19 +1,15 @@
 //! The frame in which an instruction raises, where an entry of the exception table leads (JVMS 4.10.1.6).
-ghost use Rattle.std.specs.Prelude.{◌≡◌, ◌∷◌, [], true, get_or, length, map, reverse, IfOk};
-ghost use Rattle.hierarchy.specs.Answer.{outcome_of, yes};
+ghost use Rattle.std.specs.Prelude.{◌≡◌, ◌∷◌, [], length, map, reverse, IfOk};
+ghost use Rattle.hierarchy.specs.Answer.{outcome_of};
 ghost use Rattle.names.specs.References.{reference_view};
-ghost use Rattle.frames.specs.VerificationType.{type_of, top};
+ghost use Rattle.frames.specs.VerificationType.{type_of};
 ghost use Rattle.frames.specs.Slots.{to_reference};
-ghost use Rattle.frames.specs.Assignable.{type_answer};
 ghost use Rattle.frames.specs.FrameAssignable.{item_answer, stack_answer, frame_answer};
-ghost use Rattle.frames.specs.DeclaredTables.{frames_in, locals_in, declared_view, IsOf};
+ghost use Rattle.frames.specs.DeclaredTables.{declared_view, IsOf};
 ghost use Rattle.rules.specs.After.{with_stack};
 ghost use Rattle.rules.specs.Held.{held};
-ghost use Rattle.verify.specs.private.ExceptionTables.{entry_view};
-ghost use Rattle.verify.specs.private.Catching.{caught_answer};
-ghost use Rattle.verify.specs.private.Keeping.{AreKnown};
+ghost use Rattle.verify.specs.private.Known.{AreKnown};
 
-use crate::exceptions::Entry;
 use crate::local_facts::KnownLocals;
 use frames::{Declared, DeclaredFrames, VType, assignable, both, reference_to, width};
 use hierarchy::{Answer, Classes};
@@ -38,12 +34,12 @@ fn stack_answer<'a, C: Classes>(caught: RefType<'a>, stack: &[VType<'a>], classe
 }
 
 /// The frame with what is caught alone on its stack, to a declared frame.
-pub fn frame_answer<'n, 'a, C: Classes>(
+pub fn frame_answer<'a, C: Classes>(
     caught: RefType<'a>,
     frame: &Working<'a>,
-    declared: &Declared<'n, 'a>,
-    frames: &'n DeclaredFrames<'a>,
-    known: &mut KnownLocals<'n, 'a>,
+    declared: &Declared<'_, 'a>,
+    frames: &DeclaredFrames<'a>,
+    known: &mut KnownLocals<'a>,
     room: &mut Vec<VType<'a>>,
     classes: &C,
 ) -> Result<Answer<'a>, AllocError>
@@ -65,42 +61,4 @@ pub fn frame_answer<'n, 'a, C: Classes>(
     }
     let locals = known.answer(declared, frames, frame, classes);
     Ok(both(locals, stack))
-}
-
-/// The frame with what an entry catches alone on its stack, to that of the handler. In `room` the stack of the
-/// handler's frame is written.
-pub fn caught_answer<'n, 'a, C: Classes>(
-    entry: &Entry<'a>,
-    frame: &Working<'a>,
-    frames: &'n DeclaredFrames<'a>,
-    known: &mut KnownLocals<'n, 'a>,
-    room: &mut Vec<VType<'a>>,
-    classes: &C,
-) -> Result<Answer<'a>, AllocError>
-    requires size { length (held frame.now).locals ≡ locals_in frames.now }
-    requires known { AreKnown (C.content classes.now) frames.now (held frame.now) known.old }
-    ensures told { IfOk result (λ a. outcome_of a
-        ≡ caught_answer (C.content classes.now) (frames_in frames.now) (held frame.now) (entry_view entry.now)) }
-    ensures known { AreKnown (C.content classes.now) frames.now (held frame.now) known.new }
-{
-    match frames.find(u32::from(entry.handler)) {
-        None => Ok(Answer::No),
-        Some(declared) => {
-            frame_answer(entry.caught, frame, &declared, frames, known, room, classes)
-        }
-    }
-}
-
-/// Whether a type may stand for the local of a number where those of this frame are declared.
-pub fn takes<'a, C: Classes>(
-    declared: &Declared<'_, 'a>,
-    local: u16,
-    vtype: &VType<'a>,
-    classes: &C,
-) -> bool
-    ensures { result ≡ true → type_answer (C.content classes.now) (type_of vtype.now)
-        (get_or (declared_view declared.now).locals local top) ≡ yes }
-{
-    let wanted = declared.local(usize::from(local));
-    matches!(assignable(vtype, &wanted, classes), Answer::Yes)
 }

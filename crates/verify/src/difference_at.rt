@@ -4,10 +4,9 @@
 ghost use Rattle.std.specs.Prelude.{◌≡◌, ◌≢◌, None, Some, map, length, option_map, IfOk, IfSome};
 ghost use Rattle.insn.specs.Branching.{targets_of};
 ghost use Rattle.insn.specs.Views.{act_view};
-ghost use Rattle.names.specs.References.{reference_view};
 ghost use Rattle.frames.specs.FrameFact.{frame_of};
 ghost use Rattle.frames.specs.Differences.{difference_of};
-ghost use Rattle.frames.specs.DeclaredTables.{frames_in, locals_in, declared_view, IsOf};
+ghost use Rattle.frames.specs.DeclaredTables.{frames_in, locals_in, declared_view};
 ghost use Rattle.rules.specs.Bodies.{method_view};
 ghost use Rattle.rules.specs.Held.{held};
 ghost use Rattle.rules.specs.Table.{typing_rule};
@@ -15,8 +14,7 @@ ghost use Rattle.rules.specs.declared.reason.Reason.TheVariants as reasons;
 ghost use Rattle.verify.specs.TypeSafety.{caught_frame};
 ghost use Rattle.verify.specs.DifferencesAt.{sought_difference, from_declared, at_target, at_targets, at_handler, at_handlers, target_difference, handler_difference, difference_at_of, handler_difference_of};
 ghost use Rattle.verify.specs.private.ExceptionTables.{entry_view, AreNumbered};
-ghost use Rattle.verify.specs.private.Keeping.{AreKnown};
-ghost use Rattle.verify.specs.private.Known.{IsKnown};
+ghost use Rattle.verify.specs.private.Known.{AreKnown, IsKnown};
 ghost use Rattle.verify.specs.private.Unlike.{found_difference, caught_difference, ArePassed};
 
 use crate::body::Body;
@@ -32,7 +30,7 @@ use frames::{
     is_sought, reference_to,
 };
 use hierarchy::Classes;
-use insn::{Act, BranchTargets, Branches};
+use insn::{Act, BranchTargets};
 use rules::{ClassConstants, Reason, Working, branches_by, run};
 use std::alloc::AllocError;
 
@@ -70,7 +68,7 @@ fn unlike_at_target<'n, 'a, C: Classes>(
     target: i64,
     frame: &Working<'a>,
     frames: &'n DeclaredFrames<'a>,
-    known: &mut Known<'n, 'a>,
+    known: &mut Known<'a>,
     seen: &mut PlaceSet,
     classes: &C,
 ) -> Option<(usize, Declared<'n, 'a>)>
@@ -103,7 +101,7 @@ fn unlike_target<'n, 'a, C: Classes>(
     targets: BranchTargets<'a>,
     frame: &Working<'a>,
     body: &Body<'n, 'a, C>,
-    known: &mut Known<'n, 'a>,
+    known: &mut Known<'a>,
 ) -> Result<Option<(usize, Declared<'n, 'a>)>, AllocError>
     requires size { length (held frame.now).locals ≡ locals_in body.now.frames.now }
     requires known { IsKnown (C.content body.now.classes.now) body.now.frames.now (held frame.now) known.old }
@@ -141,7 +139,7 @@ fn unlike_at_handler<'n, 'a, C: Classes>(
     entry: &Entry<'a>,
     frame: &Working<'a>,
     body: &Body<'n, 'a, C>,
-    known: &mut KnownLocals<'n, 'a>,
+    known: &mut KnownLocals<'a>,
     room: &mut Vec<VType<'a>>,
 ) -> Result<Option<Declared<'n, 'a>>, AllocError>
     requires size { length (held frame.now).locals ≡ locals_in body.now.frames.now }
@@ -186,7 +184,7 @@ fn unlike_handler<'n, 'a, C: Classes>(
     entries: &[Entry<'a>],
     frame: &Working<'a>,
     body: &Body<'n, 'a, C>,
-    known: &mut KnownLocals<'n, 'a>,
+    known: &mut KnownLocals<'a>,
 ) -> Result<Option<(Entry<'a>, Declared<'n, 'a>)>, AllocError>
     requires size { length (held frame.now).locals ≡ locals_in body.now.frames.now }
     requires known { AreKnown (C.content body.now.classes.now) body.now.frames.now (held frame.now) known.old }

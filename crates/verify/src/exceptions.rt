@@ -1,6 +1,5 @@
 //! The exception table of a method, which is judged before the code (JVMS 4.7.3, 4.10.1.6).
-ghost use Rattle.std.specs.Prelude.{◌≡◌, ◌≢◌, ◌≤◌, ℕ, None, Some, map, length, option_map, IfOk, IfSome, MatchOption};
-ghost use Rattle.layout.specs.declared.limits.TheConstants.{MAX_CODE_BYTES};
+ghost use Rattle.std.specs.Prelude.{◌≡◌, ◌≢◌, None, Some, map, option_map, IfOk, IfSome, MatchOption};
 ghost use Rattle.names.specs.References.{reference_view};
 ghost use Rattle.classfile.specs.Methods.{caught_type, exception_entries};
 ghost use Rattle.classfile.specs.Views.{handler_view};
@@ -11,7 +10,7 @@ ghost use Rattle.verify.specs.DifferencesAt.{first_refused, first_covering};
 ghost use Rattle.verify.specs.Verdict.{is_end, table_conditions};
 ghost use Rattle.rules.specs.Outcomes.{Judges};
 ghost use Rattle.rules.specs.declared.reason.Reason.TheVariants.{OutOfMemory};
-ghost use Rattle.verify.specs.private.ExceptionTables.{entry_view, IsEntryAt, AreNumbered, has_places, JudgesTable};
+ghost use Rattle.verify.specs.private.ExceptionTables.{entry_view, IsEntryAt, AreNumbered, has_places};
 
 use crate::body::Body;
 use crate::flow::check_answer;
@@ -192,25 +191,4 @@ pub fn first_covering(entries: &[Entry<'_>], at: u16) -> Option<usize>
         }
     }
     None
-}
-
-/// Judges an exception table by the frames that are declared: the first entry that is wrong is refused 72, or 77 where
-/// the class that it catches has to be looked up and is absent.
-pub fn check_table<'a, C: Classes>(
-    entries: &[Entry<'a>],
-    method: &CodeMethod<'_, 'a>,
-    starts: &CodeStarts<'_>,
-    frames: &DeclaredFrames<'a>,
-    classes: &C,
-) -> Result<(), Reason<'a>>
-    requires { code_in starts.now ≡ method.now.code.now.code.now }
-    ensures { JudgesTable (C.content classes.now) (method_view method.now) (frames_in frames.now)
-        (map entry_view entries.now) result }
-{
-    for entry in entries {
-        if let Err(reason) = check_entry(entry, method, starts, frames, classes) {
-            return Err(reason);
-        }
-    }
-    Ok(())
 }

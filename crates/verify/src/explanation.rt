@@ -6,7 +6,6 @@ ghost use Rattle.verify.specs.declared.verdict.VerifyFault.TheVariants.{OutOfMem
 ghost use Rattle.hierarchy.specs.Rules.{IsHierarchy};
 ghost use Rattle.rules.specs.Reasons.{reason_number};
 ghost use Rattle.verify.specs.Listed.{IsListed};
-ghost use Rattle.verify.specs.Reports.{IsReport};
 ghost use Rattle.verify.specs.Coming.{AreFramed, AreFramesOf, IsFramedIf, frames_view};
 ghost use Rattle.verify.specs.Explaining.{AreFramedIf, IsExplained};
 

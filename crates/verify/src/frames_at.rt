@@ -10,7 +10,7 @@ ghost use Rattle.classfile.specs.WellFormed.{WellFormed};
 ghost use Rattle.insn.specs.declared.fault.CodeFault.TheVariants as codes;
 ghost use Rattle.insn.specs.Instructions.{Instruction};
 ghost use Rattle.insn.specs.Code.{SpellsCode};
-ghost use Rattle.insn.specs.Offsets.{at_offset, IsStart};
+ghost use Rattle.insn.specs.Offsets.{IsStart};
 ghost use Rattle.insn.specs.Views.{act_view};
 ghost use Rattle.frames.specs.FrameFact.{frame_of};
 ghost use Rattle.frames.specs.DeclaredTables.{declared_view, frames_in};
@@ -26,8 +26,7 @@ ghost use Rattle.verify.specs.Coming.{no_frames, frames_with, before, frame_if, 
 
 use crate::body::Body;
 use crate::detail::{Detail, RefusedAt, detail_at};
-use crate::initial::{begins_uninitialized, initial_locals, initial_types};
-use crate::method::types_of;
+use crate::initial::{begins_uninitialized, initial_locals, initial_types, types_of};
 use crate::stack_maps::{copy_of, declared_frames, map_detail};
 use crate::verdict::VerifyFault;
 use classfile::CodeMethod;

@@ -1,17 +1,35 @@
 //! The frame with which a method begins.
-ghost use Rattle.std.specs.Prelude.{◌≡◌, ◌++◌, [], ◌∷◌, true, false, map, nat_lt, length, option_map, option_to_list, IfOk, OnOk, MatchOption};
-ghost use Rattle.names.specs.Types.{type_of as descriptor_of};
+ghost use Rattle.std.specs.Prelude.{◌≡◌, ◌++◌, [], ◌∷◌, true, false, map, nat_lt, length, option_map, option_to_list, IfOk, IfErr, OnOk, MatchOption};
+ghost use Rattle.names.specs.Types.{type_of as descriptor_of, method_of};
 ghost use Rattle.classfile.specs.Methods.{receiver_of};
+ghost use Rattle.classfile.specs.CodeMethods.{types_of};
 ghost use Rattle.frames.specs.VerificationType.{type_of};
 ghost use Rattle.frames.specs.Slots.{descriptor_type, in_locals};
 ghost use Rattle.rules.specs.Bodies.{method_view};
+ghost use Rattle.verify.specs.declared.verdict.VerifyFault.TheVariants.{OutOfMemory};
 ghost use Rattle.verify.specs.InitialFrames.{initial_types, is_uninitialized, receiver_types};
 
+use crate::verdict::VerifyFault;
 use classfile::CodeMethod;
 use frames::{VType, held_by, width};
-use names::{FieldType, OBJECT};
+use names::{FieldType, MethodType, OBJECT, method_type};
 use rules::own_class;
 use std::alloc::{AllocError, Global};
+
+/// The types that a method's descriptor names. The only refusal: memory ran out.
+pub fn types_of<'a>(
+    alloc: Global,
+    method: &CodeMethod<'_, 'a>,
+) -> Result<MethodType<'a>, VerifyFault>
+    ensures found { IfOk result (λ t. method_of t ≡ types_of method.now) }
+    ensures memory { IfErr result (λ e. e ≡ OutOfMemory) }
+{
+    match method_type(alloc, method.descriptor(), !method.is_static) {
+        Ok(types) => Ok(types),
+        // The descriptor is one, so that nothing else is refused.
+        Err(_) => Err(VerifyFault::OutOfMemory),
+    }
+}
 
 /// The type of the receiver when the method begins (JVMS 4.10.1.6); a static method has none. The receiver of an
 /// `<init>` is not initialized, unless it is Object's `<init>`.

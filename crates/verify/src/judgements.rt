@@ -6,7 +6,7 @@ ghost use Rattle.hierarchy.specs.Class.{ClassFact};
 ghost use Rattle.hierarchy.specs.Rules.{IsHierarchy};
 ghost use Rattle.verify.specs.Files.{Read, read_of, OrMemory};
 ghost use Rattle.verify.specs.Standing.{standing};
-ghost use Rattle.verify.specs.Each.{AreClasses, IsJudged, AreJudged, JudgesEach, JudgesNone};
+ghost use Rattle.verify.specs.Each.{IsJudged, AreJudged, JudgesEach, JudgesNone};
 ghost use Rattle.verify.specs.private.EachSteps.{IsNone};
 ghost use Rattle.verify.specs.declared.judgements.EachFault.TheVariants.{OutOfMemory};
 

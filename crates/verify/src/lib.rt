@@ -21,19 +21,17 @@
 //!
 //! The pass over a method's code:
 //!
-//! - `judging`: one pass, against the verdict in specs/Verdict.antt.
+//! - `pass`: one pass, against the verdict in specs/Verdict.antt, on frames whose types are numbers.
+//! - `flow`: reasons that an answer and the end of the code give; `place_set`: sets of declared frames.
+//!
+//! The frames at an instruction, once more and by their types, for an explanation:
+//!
 //! - `body`: a method's code, its instructions, its declared frames, and the classes that it may name.
 //! - `initial`: the frame with which a method begins; `stack_maps`: the frames that a stack map declares.
-//! - `exceptions`: the exception table, which is judged before the code.
-//! - `flow`, `branching`: from one instruction to the next, and to its targets.
-//! - `handlers`, `catching`: the exception handlers during the pass, and the frame that comes to one.
-//!
-//! The pass compares the running frame with a declared one only where they may differ since the last comparison:
-//!
-//! - `known_facts`: facts about the running frame; `local_facts`: facts about its locals.
-//! - `comparisons`: these facts, and the declared frames with which the running frame was compared; `place_set`: sets
-//!   of declared frames.
-//! - `representatives`: handlers that stand for others, since their frames have the same locals.
+//! - `exceptions`: the exception table, and the first of its entries that is refused or that covers an instruction.
+//! - `branching`: the frame that is declared at a target; `catching`: the frame that comes to an exception handler.
+//! - `known_facts`, `local_facts`: facts about a frame, so that it is not compared with each declared frame slot by
+//!   slot.
 //!
 //! Theorems:
 //!
@@ -47,7 +45,6 @@ mod body;
 mod branching;
 mod catching;
 mod classes_in_play;
-mod comparisons;
 mod detail;
 mod difference_at;
 mod exceptions;
@@ -57,10 +54,8 @@ mod final_super;
 mod flow;
 mod frames_at;
 mod gathering;
-mod handlers;
 mod initial;
 mod judgements;
-mod judging;
 mod known_classes;
 mod known_facts;
 mod laws;
@@ -68,11 +63,11 @@ mod listing;
 mod local_facts;
 mod met_names;
 mod method;
+mod pass;
 mod place_set;
 mod play;
 mod refusal;
 mod report;
-mod representatives;
 mod stack_maps;
 mod standing;
 mod theorem;
@@ -82,10 +77,8 @@ mod verified_walk;
 pub use classes_in_play::{TogetherFault, verify_together, verify_together_under};
 pub use detail::Detail;
 pub use difference_at::DifferenceAt;
-pub use exceptions::Entry;
 pub use explanation::Explained;
 pub use files::{FileFault, FileRead, class_file};
-pub use flow::{check_answer, check_end};
 pub use frames_at::FramesAt;
 pub use judgements::{EachFault, Judgement, verify_each};
 pub use known_classes::{AmongFault, explain_among_under, verify_among, verify_among_under};
@@ -95,9 +88,7 @@ pub use laws::{
     type_safe_is_verified, verified_is_type_safe, walks_are_runs,
 };
 pub use method::verify_method;
-pub use place_set::PlaceSet;
 pub use play::{PlayFault, PlayRule, verify_play};
-pub use refusal::{refuse, stack_map};
 pub use report::{
     ClassFault, MethodVerdict, Report, verify_class, verify_class_under, verify_methods,
 };

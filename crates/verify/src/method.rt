@@ -1,9 +1,9 @@
 //! The verdict on a method.
-ghost use Rattle.std.specs.Prelude.{◌≡◌, ◌<◌, ◌≤◌, ℕ, true, List, [], map, length, Some, Ok, IfOk, IfErr};
+ghost use Rattle.std.specs.Prelude.{◌≡◌, ◌<◌, ◌≤◌, ℕ, List, map, length, Some, Ok, IfOk, IfErr};
 ghost use Rattle.layout.specs.declared.limits.TheConstants.{MAX_CODE_BYTES};
 ghost use Rattle.names.specs.Types.{type_of, method_of};
 ghost use Rattle.classfile.specs.MethodParts.{code_at};
-ghost use Rattle.classfile.specs.CodeMethods.{judged_class, class_of, code_method_view, types_of};
+ghost use Rattle.classfile.specs.CodeMethods.{judged_class, class_of, types_of};
 ghost use Rattle.classfile.specs.Views.{class_view, code_view};
 ghost use Rattle.classfile.specs.WellFormed.{WellFormed};
 ghost use Rattle.insn.specs.Instructions.{Instruction};
@@ -18,167 +18,75 @@ ghost use Rattle.verify.specs.InitialFrames.{initial_frame};
 ghost use Rattle.verify.specs.Verdict.{with_frames, verdict};
 ghost use Rattle.verify.specs.private.JudgingSteps.{Gives};
 ghost use Rattle.verify.specs.Listed.{IsListed};
+ghost use Rattle.verify.specs.private.pass.ClassTypes.{AreClassTypes};
 ghost use Rattle.verify.specs.Answers.{AnswersCode, Answers, VerifiesTypeSafe, VerifiedIsSafe};
 
-use crate::body::Body;
-use crate::comparisons::Comparisons;
-use crate::exceptions::{check_table, exceptions};
-use crate::handlers::Handlers;
-use crate::initial::{begins_uninitialized, initial_locals, initial_types};
-use crate::judging::pass;
-use crate::known_facts::Known;
 use crate::listing::is_listed;
-use crate::place_set::PlaceSet;
-use crate::refusal::{refuse, refuse_code};
-use crate::stack_maps::declared_frames;
+use crate::pass::{ClassTypes, judge_body};
+use crate::refusal::refuse_code;
 use crate::verdict::{Verdict, VerifyFault};
 use classfile::{CodeMethod, Formed};
 use frames::CodeStarts;
 use hierarchy::Classes;
-use names::{FieldType, MethodType, method_type};
-use rules::{ClassConstants, Reason, Working};
+use method_frames::MethodFrames;
+use numbered_rules::Body;
+use rules::ClassConstants;
 use std::alloc::Global;
+use type_numbers::TypeNumbers;
 
-/// The types that a method's descriptor names. The only refusal: memory ran out.
-pub fn types_of<'a>(
-    alloc: Global,
-    method: &CodeMethod<'_, 'a>,
-) -> Result<MethodType<'a>, VerifyFault>
-    ensures found { IfOk result (λ t. method_of t ≡ types_of method.now) }
-    ensures memory { IfErr result (λ e. e ≡ OutOfMemory) }
-{
-    match method_type(alloc, method.descriptor(), !method.is_static) {
-        Ok(types) => Ok(types),
-        // The descriptor is one, so that nothing else is refused.
-        Err(_) => Err(VerifyFault::OutOfMemory),
-    }
-}
-
-/// Judges a method by its exception table, under the frames that its stack map declares, and then its instructions by
-/// one pass.
-fn judge_code<'a, C: Classes>(
-    body: &Body<'_, 'a, C>,
-    constants: &mut ClassConstants<'_, '_, 'a, C>,
-    frame: &mut Working<'a>,
-) -> Result<Verdict<'a>, VerifyFault>
-    requires constants { constants.old.members
-        ≡ record { class = body.now.method.now.class.now; classes = C.content body.now.classes.now } }
-    requires initial { held frame.old ≡ initial_frame (method_view body.now.method.now) }
-    requires locals { length (held frame.old).locals ≡ body.now.method.now.code.now.max_locals }
-    requires spelled { (xs : List (ℕ × Instruction)) × SpellsCode 0 body.now.method.now.code.now.code.now xs }
-    requires few { length body.now.method.now.code.now.code.now ≤ MAX_CODE_BYTES }
-    ensures same { constants.new.members ≡ constants.old.members }
-    ensures judged { let m = method_view body.now.method.now in
-        Gives (with_frames typing_rule (C.content body.now.classes.now) m (Ok (frames_in body.now.frames.now))) result }
-{
-    let alloc = body.alloc;
-    let table = exceptions(alloc, body.method)?;
-    if let Err(reason) = check_table(&table, body.method, body.starts, body.frames, body.classes) {
-        return refuse(0, reason);
-    }
-    let handlers = Handlers::new(alloc, table)?;
-    let mut targets = PlaceSet::new(alloc);
-    targets.start(body.frames.len())?;
-    let known = Known::new(alloc, body.frames, body.method.code.max_stack)?;
-    let mut comparisons = Comparisons {
-        known,
-        handlers,
-        targets,
-    };
-    pass(body, constants, &mut comparisons, frame)
-}
-
-/// Judges a method by its receiver and parameters, its stack map, its exception table and its instructions: 64 where
-/// they do not fit, 78 where the map is refused, and then by the table and by one pass.
-fn judge_body<'a, C: Classes>(
-    alloc: Global,
-    method: &CodeMethod<'_, 'a>,
-    starts: &CodeStarts<'_>,
-    parameters: &[FieldType<'a>],
-    constants: &mut ClassConstants<'_, '_, 'a, C>,
-    frame: &mut Working<'a>,
-    classes: &C,
-) -> Result<Verdict<'a>, VerifyFault>
-    requires constants { constants.old.members
-        ≡ record { class = method.now.class.now; classes = C.content classes.now } }
-    requires starts { code_in starts.now ≡ method.now.code.now.code.now }
-    requires parameters { (method_view method.now).type.params ≡ map type_of parameters.now }
-    requires spelled { (xs : List (ℕ × Instruction)) × SpellsCode 0 method.now.code.now.code.now xs }
-    requires few { length method.now.code.now.code.now ≤ MAX_CODE_BYTES }
-    ensures same { constants.new.members ≡ constants.old.members }
-    ensures judged { Gives (verdict typing_rule (C.content classes.now) (method_view method.now)) result }
-{
-    let max_locals = method.code.max_locals;
-    let types = initial_types(alloc, method, parameters)?;
-    let Some(locals) = initial_locals(alloc, &types, max_locals)? else {
-        return refuse(0, Reason::LocalOutOfRange);
-    };
-    let declared = declared_frames(alloc, method, &types, starts, &mut constants.types)?;
-    let frames = match declared {
-        Ok(frames) => frames,
-        Err(fault) => return refuse(0, Reason::BadStackMap { fault }),
-    };
-    frame.start(&locals, max_locals, begins_uninitialized(method))?;
-    let body = Body {
-        alloc,
-        method,
-        starts,
-        frames: &frames,
-        classes,
-    };
-    judge_code(&body, constants, frame)
-}
-
-/// The verdict on a method with code.
+/// The verdict on a method with code. The types and the constants are those of its class.
 fn verify_code<'a, C: Classes>(
     alloc: Global,
     method: CodeMethod<'_, 'a>,
+    types: &ClassTypes,
     constants: &mut ClassConstants<'_, '_, 'a, C>,
-    frame: &mut Working<'a>,
-    classes: &C,
+    frames: &mut MethodFrames<'_, '_, 'a, C>,
 ) -> Result<Verdict<'a>, VerifyFault>
-    requires constants { constants.old.members ≡ record { class = method.class.now; classes = C.content classes.now } }
+    requires constants { constants.old.members
+        ≡ record { class = method.class.now; classes = frames.old.types.classes } }
+    requires types { AreClassTypes frames.old.types (class_view method.class.now) types.now }
     requires formed { WellFormed (class_view method.class.now) }
     requires coded { code_at (class_view method.class.now) method.number ≡ Some (code_view method.code.now) }
     ensures same { constants.new.members ≡ constants.old.members }
-    ensures answered { AnswersCode (C.content classes.now) (class_of method.entry) method.entry.number result }
+    ensures types { frames.new.types ≡ frames.old.types }
+    ensures answered { AnswersCode frames.old.types.classes (class_of method.entry) method.entry.number result }
 {
     let starts = match CodeStarts::new(alloc, method.code.code) {
         Ok(starts) => starts,
         Err(fault) => return refuse_code(fault),
     };
-    let types = types_of(alloc, &method)?;
-    judge_body(
-        alloc,
-        &method,
-        &starts,
-        &types.params,
-        constants,
-        frame,
-        classes,
-    )
+    let initial = types.initial(alloc, &method)?;
+    let body = Body {
+        method: &method,
+        starts: &starts,
+        numbers: types.rule_numbers(&method),
+    };
+    judge_body(alloc, &body, &initial, constants, frames)
 }
 
-/// The verdict on a method of a class that the hierarchy has as it is; the constants are those of the class.
+/// The verdict on a method of a class that the hierarchy has as it is; the types and the constants are those of the
+/// class.
 pub fn verify_listed<'a, C: Classes>(
     alloc: Global,
     formed: &Formed<'_, 'a>,
     number: usize,
+    types: &ClassTypes,
     constants: &mut ClassConstants<'_, '_, 'a, C>,
-    frame: &mut Working<'a>,
-    classes: &C,
+    frames: &mut MethodFrames<'_, '_, 'a, C>,
 ) -> Result<Verdict<'a>, VerifyFault>
     requires constants { constants.old.members
-        ≡ record { class = formed.now.class.now; classes = C.content classes.now } }
+        ≡ record { class = formed.now.class.now; classes = frames.old.types.classes } }
+    requires types { AreClassTypes frames.old.types (class_view formed.now.class.now) types.now }
     requires within { number < length formed.now.class.now.methods.items }
-    requires listed { IsListed (C.content classes.now) (class_view formed.now.class.now) }
+    requires listed { IsListed frames.old.types.classes (class_view formed.now.class.now) }
     ensures same { constants.new.members ≡ constants.old.members }
-    ensures answered { Answers (C.content classes.now) (judged_class formed.now) number result }
+    ensures types { frames.new.types ≡ frames.old.types }
+    ensures answered { Answers frames.old.types.classes (judged_class formed.now) number result }
 {
     formed.class();
     match formed.method(number) {
         None => Ok(Verdict::NoCode),
-        Some(method) => verify_code(alloc, method, constants, frame, classes),
+        Some(method) => verify_code(alloc, method, types, constants, frames),
     }
 }
 
@@ -218,8 +126,10 @@ pub fn verify_method<'a, C: Classes>(
     if !is_listed(alloc, formed, classes)? {
         return Err(VerifyFault::NotInHierarchy);
     }
-    let mut frame = Working::new(alloc, 0, false);
     let class = formed.class();
+    let mut numbers = TypeNumbers::new(alloc, classes);
+    let types = ClassTypes::new(alloc, class, &mut numbers)?;
     let mut constants = ClassConstants::new(alloc, class, classes);
-    verify_listed(alloc, formed, number, &mut constants, &mut frame, classes)
+    let mut frames = MethodFrames::new(alloc, &numbers, 0, 0, false)?;
+    verify_listed(alloc, formed, number, &types, &mut constants, &mut frames)
 }

@@ -3,23 +3,26 @@ ghost use Rattle.std.specs.Prelude.{◌≡◌, ◌<◌, length, IfOk, IfErr};
 ghost use Rattle.classfile.specs.CodeMethods.{judged_class};
 ghost use Rattle.classfile.specs.Views.{class_view};
 ghost use Rattle.classfile.specs.declared.profile.Profile.TheVariants.{Default};
-ghost use Rattle.classfile.specs.WellFormed.{WellFormed};
 ghost use Rattle.hierarchy.specs.Rules.{IsHierarchy};
 ghost use Rattle.verify.specs.declared.verdict.VerifyFault.TheVariants.{OutOfMemory};
 ghost use Rattle.verify.specs.Listed.{IsListed};
+ghost use Rattle.verify.specs.private.pass.ClassTypes.{AreClassTypes};
 ghost use Rattle.verify.specs.Reports.{IsReported, IsReport, Reports, ReportsBytes};
 
 use crate::final_super::has_final_super;
 use crate::listing::has_summary;
 use crate::method::verify_listed;
+use crate::pass::ClassTypes;
 use crate::verdict::{Verdict, VerifyFault};
 use classfile::{FormFault, FormRule, Formed, Place, Profile, decode, form_check};
 use hierarchy::{Classes, summary_of};
 use layout::ReadFault;
+use method_frames::MethodFrames;
 use names::Text;
-use rules::{ClassConstants, Working};
+use rules::ClassConstants;
 use std::alloc::{AllocError, Global};
 use thiserror::Error;
+use type_numbers::TypeNumbers;
 
 /// A method and the verdict on it.
 #[derive(Clone, Copy, Debug)]
@@ -69,22 +72,24 @@ impl From<AllocError> for ClassFault {
     }
 }
 
-/// The verdict on the method of this number; the constants are those of the class.
+/// The verdict on the method of this number; the types and the constants are those of the class.
 fn report_on<'a, C: Classes>(
     alloc: Global,
     formed: &Formed<'_, 'a>,
     number: usize,
+    types: &ClassTypes,
     constants: &mut ClassConstants<'_, '_, 'a, C>,
-    frame: &mut Working<'a>,
-    classes: &C,
+    frames: &mut MethodFrames<'_, '_, 'a, C>,
 ) -> Result<MethodVerdict<'a>, VerifyFault>
     requires constants { constants.old.members
-        ≡ record { class = formed.now.class.now; classes = C.content classes.now } }
+        ≡ record { class = formed.now.class.now; classes = frames.old.types.classes } }
+    requires types { AreClassTypes frames.old.types (class_view formed.now.class.now) types.now }
     requires number { number < length formed.now.class.now.methods.items }
-    requires hierarchy { IsHierarchy (C.content classes.now) }
-    requires listed { IsListed (C.content classes.now) (class_view formed.now.class.now) }
+    requires hierarchy { IsHierarchy frames.old.types.classes }
+    requires listed { IsListed frames.old.types.classes (class_view formed.now.class.now) }
     ensures same { constants.new.members ≡ constants.old.members }
-    ensures found { IfOk result (IsReported (C.content classes.now) (judged_class formed.now) number) }
+    ensures types { frames.new.types ≡ frames.old.types }
+    ensures found { IfOk result (IsReported frames.old.types.classes (judged_class formed.now) number) }
     ensures memory { IfErr result (λ e. e ≡ OutOfMemory) }
 {
     let class = formed.class();
@@ -92,7 +97,7 @@ fn report_on<'a, C: Classes>(
     let pool = &class.constant_pool;
     let name = pool.text(member.name).unwrap();
     let descriptor = pool.text(member.descriptor).unwrap();
-    match verify_listed(alloc, formed, number, constants, frame, classes) {
+    match verify_listed(alloc, formed, number, types, constants, frames) {
         Ok(verdict) => Ok(MethodVerdict {
             name,
             descriptor,
@@ -102,8 +107,8 @@ fn report_on<'a, C: Classes>(
     }
 }
 
-/// The verdicts on the methods of a class that the hierarchy has as it is. One frame and one table of constants serve
-/// all of them.
+/// The verdicts on the methods of a class that the hierarchy has as it is. The numbers of its types, the
+/// frames and one table of constants serve all of them.
 pub fn report_listed<'a, C: Classes>(
     alloc: Global,
     formed: &Formed<'_, 'a>,
@@ -115,11 +120,13 @@ pub fn report_listed<'a, C: Classes>(
     ensures memory { IfErr result (λ e. e ≡ OutOfMemory) }
 {
     let mut methods = Vec::new(alloc);
-    let mut frame = Working::new(alloc, 0, false);
     let class = formed.class();
+    let mut numbers = TypeNumbers::new(alloc, classes);
+    let types = ClassTypes::new(alloc, class, &mut numbers)?;
     let mut constants = ClassConstants::new(alloc, class, classes);
+    let mut frames = MethodFrames::new(alloc, &numbers, 0, 0, false)?;
     for number in 0..class.methods.len() {
-        let verdict = report_on(alloc, formed, number, &mut constants, &mut frame, classes)?;
+        let verdict = report_on(alloc, formed, number, &types, &mut constants, &mut frames)?;
         methods.push(verdict)?;
     }
     Ok(Report { methods })

@@ -2,7 +2,7 @@
 ghost use Rattle.std.specs.Prelude.{◌≡◌, ◌^◌, false, map, option_map, IfOk};
 ghost use Rattle.std.specs.Option.{option_map_or};
 ghost use Rattle.hierarchy.specs.Summary.{fact_of, facts_of};
-ghost use Rattle.verify.specs.Standing.{is_root, is_array_class, has_other_super, super_of, onward, stands, standing};
+ghost use Rattle.verify.specs.Standing.{is_root, is_array_class, super_of, onward, stands, standing};
 ghost use Rattle.verify.specs.private.EachSteps.{ArePlaced, next_place, class_at, LeadsAhead};
 
 use crate::gathering::Gathered;

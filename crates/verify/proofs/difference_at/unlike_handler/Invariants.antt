@@ -3,7 +3,7 @@ use Rattle.frames.specs.DeclaredTables.{frames_in}
 use Rattle.rules.specs.Held.{held}
 use Rattle.verify.specs.DifferencesAt.{at_handlers}
 use Rattle.verify.specs.private.ExceptionTables.{entry_view}
-use Rattle.verify.specs.private.Keeping.{AreKnown}
+use Rattle.verify.specs.private.Known.{AreKnown}
 use Rattle.verify.proofs.difference_at.unlike_handler.Given as goal
 
 abbrev pub invariant-loop-entry : goal.invariant-loop-entry

@@ -8,7 +8,7 @@ use Rattle.verify.proofs.method.verify_listed.Goals as goal
 
 pub returns-in-Some-clause-answered : goal.returns-in-Some-clause-answered
 returns-in-Some-clause-answered g c =
-    let classes = g.C.Classes.content c.args.classes.now in
+    let classes = c.args.frames.now.types.classes in
     let class = judged_class c.args.formed.now in
     let m = c.in-Some.method in
     let r = c.verify_code.result in

@@ -42,7 +42,7 @@ returns-in-Ok-clause-found g c =
     let here : slice_get (map member_view methods) c.args.number ≡ Some (member_view member) = viewed_at member_view methods c.args.number member lt c.index-member.ensures in
     let name : text_at class.constant_pool member.name ≡ Ok c.unwrap-name.result.bytes.now = subst (Finds (λ t. t.bytes.now) (text_at class.constant_pool member.name)) c.unwrap-name.ensures c.text.ensures in
     let descriptor : text_at class.constant_pool member.descriptor ≡ Ok c.unwrap-descriptor.result.bytes.now = subst (Finds (λ t. t.bytes.now) (text_at class.constant_pool member.descriptor)) c.unwrap-descriptor.ensures c.text-2.ensures in
-    let classes = g.C.Classes.content c.args.classes.now in
+    let classes = c.args.frames.now.types.classes in
     let d = c.args.formed.now.dynamic in
     let judged : JudgedClass = record { file = class; dynamic = d } in
     let answers : Answers classes judged c.args.number (Ok c.in-Ok.verdict) = subst (λ k. Answers classes (record { file = class_view k; dynamic = d }) c.args.number (Ok c.in-Ok.verdict)) (sym c.class-class.ensures.same) c.in-Ok.ensures.answered in

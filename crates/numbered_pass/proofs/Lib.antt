@@ -1,8 +1,0 @@
-pub mod Finding
-pub mod Following
-pub mod Numbered
-pub mod Objects
-pub mod Running
-pub mod Settling
-pub mod Maps
-pub mod TableEntries

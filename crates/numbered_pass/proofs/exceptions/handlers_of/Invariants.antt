@@ -1,9 +1,0 @@
-use Rattle.std.proofs.Common.{drop}
-use Rattle.rules.specs.Bodies.{method_view}
-use Rattle.numbered_pass.proofs.TableEntries.{Built}
-use Rattle.numbered_pass.proofs.exceptions.handlers_of.Given as goal
-
-abbrev pub invariant-loop-entry : goal.invariant-loop-entry
-invariant-loop-entry g l =
-    let m = method_view l.body.method.now in
-    Built l.frames m m.exceptions (drop l.entry-index m.exceptions) l.table.items

@@ -1,4 +1,0 @@
-use Rattle.numbered_pass.proofs.handlers.Handlers.new.Goals as goal
-
-pub returns : goal.returns
-returns c = λ x es a b. record { entries = a; shared = b; settled = λ st is. absurd (cc) }

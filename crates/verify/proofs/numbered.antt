@@ -1,0 +1,10 @@
+-- The pass over a method's code, on frames whose types are numbers.
+pub mod Finding
+pub mod Following
+pub mod Numbered
+pub mod Objects
+pub mod Running
+pub mod Settling
+pub mod Maps
+pub mod TableEntries
+pub mod ClassTyped

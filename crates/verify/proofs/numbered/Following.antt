@@ -1,0 +1,234 @@
+-- The entries of an exception table while a pass goes over the code.
+use Rattle.std.proofs.Common.{◌≡◌, ◌≢◌, ◌⊎◌, ◌∙◌, ℕ, zero, suc, ◌+◌, ◌≤◌, ◌<◌, Bool, true, false, ◌||◌, nat_lt, nat_le, List, [], ◌∷◌, ◌++◌, length, get_or, slice_get, drop, Option, Some, None, Result, Ok, if◌then◌else◌, refl, sym, ap, subst, inl, inr, arith}
+use Rattle.std.proofs.lemmas.Bool.{cases_eq}
+use Rattle.std.proofs.lemmas.Bool.Decides.{nat_tests}
+use Rattle.std.proofs.lemmas.List.{append_assoc, append-nil}
+use Rattle.classfile.specs.Methods.{ExceptionEntry, covers}
+use Rattle.hierarchy.specs.Class.{ClassFact}
+use Rattle.hierarchy.specs.Answer.{Outcome, yes, no, missing}
+use Rattle.insn.specs.Offsets.{at_offset}
+use Rattle.frames.specs.FrameFact.{FrameFact}
+use Rattle.frames.specs.Slots.{to_reference}
+use Rattle.frames.specs.FrameAssignable.{frame_answer}
+use Rattle.frames.specs.Conditions.{Conditions, least}
+use Rattle.type_numbers.specs.Numbers.{Numbering}
+use Rattle.type_numbers.specs.Decoding.{type_by}
+use Rattle.type_numbers.proofs.Decoded.{number_read}
+use Rattle.method_frames.specs.NumberedFrames.{NumberedFrame, NumberedFrames, frame_by, declared_frame}
+use Rattle.method_frames.specs.MapFrames.{frames_by}
+use Rattle.rules.specs.declared.reason.Reason.{Reason}
+use Rattle.numbered_rules.specs.Held.{held}
+use Rattle.rules.specs.After.{with_stack}
+use Rattle.rules.specs.Outcomes.{Judges}
+use Rattle.verify.specs.TypeSafety.{Frames, caught_frame}
+use Rattle.verify.specs.Verdict.{answer_conditions, one_handler, handler_conditions, is_covered}
+use Rattle.verify.specs.private.Catching.{answer_at}
+use Rattle.verify.specs.declared.pass.handlers.Handler.{Handler}
+use Rattle.verify.specs.private.pass.Following.{IsHandler, AreHandlers, IsAlike, AreAlikeTo, AreAlike, IsTaken, one_handler_at}
+
+-- ---- entries one after the other
+
+abbrev pub no_handler : Handler
+no_handler = record { from = 0; to = 0; frame = 0; caught = 0; shared = 0 }
+
+pub handler_at : (hs : List Handler) (i : ℕ) → i < length hs → slice_get hs i ≡ Some (get_or hs i no_handler)
+handler_at [] i lt = absurd (omega (arith, lt))
+handler_at (h ∷ hs) zero lt = refl
+handler_at (h ∷ hs) (suc i) lt = handler_at hs i (omega (arith, lt))
+
+module _ (s : Numbering) (ds : List (ℕ × NumberedFrame)) where
+  -- the entries from a place on
+  pub handlers_from : (es : List ExceptionEntry) (hs : List Handler) (i : ℕ) → AreHandlers s ds es hs → AreHandlers s ds (drop i es) (drop i hs)
+  handlers_from es hs zero a = a
+  handlers_from [] [] (suc i) a = a
+  handlers_from [] (h ∷ hs) (suc i) a = absurd a
+  handlers_from (e ∷ es) [] (suc i) a = absurd a
+  handlers_from (e ∷ es) (h ∷ hs) (suc i) a = handlers_from es hs i a.1
+
+  -- an entry, where there is a place
+  pub record HasEntry (es : List ExceptionEntry) (i : ℕ) (h : Handler) : Type 0 where
+    pub entry : ExceptionEntry
+    pub is : IsHandler s ds entry h
+    pub here : drop i es ≡ entry ∷ drop (i + 1) es
+    pub got : slice_get es i ≡ Some entry
+
+  pub has_entry : (es : List ExceptionEntry) (hs : List Handler) (i : ℕ) (d : Handler) → AreHandlers s ds es hs → i < length hs → HasEntry es i (get_or hs i d)
+  has_entry [] [] i d a lt = absurd (omega (arith, lt))
+  has_entry [] (h ∷ hs) i d a lt = absurd a
+  has_entry (e ∷ es) [] i d a lt = absurd a
+  has_entry (e ∷ es) (h ∷ hs) zero d a lt = record { entry = e; is = a.0; here = refl; got = refl }
+  has_entry (e ∷ es) (h ∷ hs) (suc i) d a lt =
+      let k = has_entry es hs i d a.1 (omega (arith, lt)) in
+      record { entry = k.entry; is = k.is; here = k.here ∙ ap (λ n. k.entry ∷ drop n (e ∷ es)) (let q : suc (i + 1) ≡ suc i + 1 = omega arith in q); got = k.got }
+
+  pub as_many : (es : List ExceptionEntry) (hs : List Handler) → AreHandlers s ds es hs → length es ≡ length hs
+  as_many [] [] a = refl
+  as_many [] (h ∷ hs) a = absurd a
+  as_many (e ∷ es) [] a = absurd a
+  as_many (e ∷ es) (h ∷ hs) a = ap suc (as_many es hs a.1)
+
+-- ---- the conditions of entries
+
+module _ (classes : List ClassFact) (frames : Frames) where
+  abbrev all : ℕ → FrameFact → List ExceptionEntry → Conditions
+  all at f es = handler_conditions classes frames at f es
+
+  -- some entries are judged, and these are left
+  pub record Judged (at : ℕ) (f : FrameFact) (es left : List ExceptionEntry) (r : Result Unit Reason) : Type 0 where
+    pub done : Conditions
+    pub parts : done ++ all at f left ≡ all at f es
+    pub judged : Judges done r
+
+  pub judged_first : (at : ℕ) (f : FrameFact) (es : List ExceptionEntry) (u : Unit {0}) → Judged at f es es (Ok u)
+  judged_first at f es u = record { done = []; parts = refl; judged = record { outcome = refl } }
+
+  pub judged_next : (at : ℕ) (f : FrameFact) (es left others : List ExceptionEntry) (e : ExceptionEntry) (r o t : Result Unit Reason) → left ≡ e ∷ others → Judged at f es left r
+      → Judges (one_handler_at classes frames at f e) o → ((cs ds : Conditions) → Judges cs r → Judges ds o → Judges (cs ++ ds) t) → Judged at f es others t
+  judged_next at f es left others e r o t q k j together = record {
+    done = k.done ++ one_handler_at classes frames at f e;
+    parts = append_assoc k.done (one_handler_at classes frames at f e) (all at f others) ∙ ap (λ xs. k.done ++ all at f xs) (sym q) ∙ k.parts;
+    judged = together k.done (one_handler_at classes frames at f e) k.judged j;
+  }
+
+  pub judged_all : (at : ℕ) (f : FrameFact) (es : List ExceptionEntry) (r : Result Unit Reason) → Judged at f es [] r → Judges (all at f es) r
+  judged_all at f es r k = subst (λ cs. Judges cs r) (sym (append-nil k.done) ∙ k.parts) k.judged
+
+  -- they depend on the locals and the flag alone
+  pub same_beneath : (at : ℕ) (f g : FrameFact) (es : List ExceptionEntry) → f.locals ≡ g.locals → f.flag ≡ g.flag → all at f es ≡ all at g es
+  same_beneath at f g [] l b = refl
+  same_beneath at f g (e ∷ es) l b =
+      ap (λ xs. one_handler_at classes frames at (record { locals = xs; stack = f.stack; flag = f.flag }) e ++ all at f es) l
+      ∙ ap (λ z. one_handler_at classes frames at (record { locals = g.locals; stack = f.stack; flag = z }) e ++ all at f es) b
+      ∙ ap (λ cs. one_handler_at classes frames at g e ++ cs) (same_beneath at f g es l b)
+
+  -- and on the entries that cover the offset
+  pub alike : (es : List ExceptionEntry) (at end i : ℕ) (f : FrameFact) → AreAlike es at end → at ≤ i → i < end → all i f es ≡ all at f es
+  alike [] at end i f a le lt = refl
+  alike (e ∷ es) at end i f a le lt =
+      ap (λ b. (if b then one_handler classes (at_offset frames e.handler) (caught_frame e f) else []) ++ all i f es) (a 0 e (omega arith) refl i le lt)
+      ∙ ap (λ cs. one_handler_at classes frames at f e ++ cs) (alike es at end i f (λ k x less here. a (suc k) x (omega (arith, less)) here) le lt)
+
+-- ---- the entries up to a place
+
+module _ (s : Numbering) (ds : List (ℕ × NumberedFrame)) (es : List ExceptionEntry) (hs : List Handler) (i : ℕ) (a : AreHandlers s ds es hs) (lt : i < length hs) where
+  abbrev one : HasEntry s ds es i (get_or hs i no_handler)
+  one = has_entry s ds es hs i no_handler a lt
+
+  same_entry : (x y : ExceptionEntry) → Some x ≡ Some y → x ≡ y
+  same_entry x y e = cc
+
+  -- one more is like it was
+  pub alike_more : (at end one_end now : ℕ) → now ≤ end → now ≤ one_end → AreAlikeTo i es at end → IsAlike one.entry at one_end → AreAlikeTo (i + 1) es at now
+  alike_more at end one_end now le less so is k e few here j from to = by (cases_eq k i)
+    where
+      by : (k ≡ i) ⊎ (k ≢ i) → covers e j ≡ covers e at
+      by (inl q) =
+          let there : e ≡ one.entry = same_entry e one.entry (sym here ∙ ap (slice_get es) q ∙ one.got) in
+          subst (λ x. covers x j ≡ covers x at) (sym there) (is j from (omega (arith, to, less)))
+      by (inr ne) = so k e (omega (arith, few, ne)) here j from (omega (arith, to, le))
+
+  -- one more does not cover the offset
+  pub bare_more : (at : ℕ) → ((k : ℕ) (e : ExceptionEntry) → k < i → slice_get es k ≡ Some e → covers e at ≡ false) → covers one.entry at ≡ false
+      → (k : ℕ) (e : ExceptionEntry) → k < i + 1 → slice_get es k ≡ Some e → covers e at ≡ false
+  bare_more at so is k e few here = by (cases_eq k i)
+    where
+      by : (k ≡ i) ⊎ (k ≢ i) → covers e at ≡ false
+      by (inl q) =
+          let there : e ≡ one.entry = same_entry e one.entry (sym here ∙ ap (slice_get es) q ∙ one.got) in
+          subst (λ x. covers x at ≡ false) (sym there) is
+      by (inr ne) = so k e (omega (arith, few, ne)) here
+
+pub covered_by : (es : List ExceptionEntry) (at k : ℕ) (e : ExceptionEntry) → slice_get es k ≡ Some e → covers e at ≡ true → is_covered es at ≡ true
+covered_by [] at k e here is = cc
+covered_by (x ∷ es) at zero e here is = let same : x ≡ e = cc in ap (λ y. covers y at || is_covered es at) same ∙ ap (λ b. b || is_covered es at) is
+covered_by (x ∷ es) at (suc k) e here is = ap (λ b. covers x at || b) (covered_by es at k e here is) ∙ or_true (covers x at)
+  where
+    or_true : (b : Bool) → (b || true) ≡ true
+    or_true true = refl
+    or_true false = refl
+
+pub covered_by_none : (es : List ExceptionEntry) (at : ℕ) → ((k : ℕ) (e : ExceptionEntry) → k < length es → slice_get es k ≡ Some e → covers e at ≡ false) → is_covered es at ≡ false
+covered_by_none [] at so = refl
+covered_by_none (x ∷ es) at so = ap (λ b. b || is_covered es at) (so 0 x (omega arith) refl) ∙ covered_by_none es at (λ k e lt here. so (suc k) e (omega (arith, lt)) here)
+
+-- ---- one entry
+
+pub none_of_yes : (classes : List ClassFact) (o : Option FrameFact) (g : FrameFact) → answer_at classes o g ≡ yes → least (one_handler classes o g) ≡ None
+none_of_yes classes None g e = absurd (cc)
+none_of_yes classes (Some d) g e = ap (λ a. least (answer_conditions 73 a)) e
+
+pub yes_of_none : (classes : List ClassFact) (o : Option FrameFact) (g : FrameFact) → least (one_handler classes o g) ≡ None → answer_at classes o g ≡ yes
+yes_of_none classes None g e = absurd (cc)
+yes_of_none classes (Some d) g e = by (frame_answer classes g d) e
+  where
+    by : (a : Outcome) → least (answer_conditions 73 a) ≡ None → a ≡ yes
+    by yes e = refl
+    by no e = absurd (cc)
+    by (missing name) e = absurd (cc)
+
+module _ (classes : List ClassFact) (frames : Frames) (at : ℕ) (f : FrameFact) (e : ExceptionEntry) where
+  abbrev conditions_if : Bool → Conditions
+  conditions_if b = if b then one_handler classes (at_offset frames e.handler) (caught_frame e f) else []
+
+  pub not_covering : covers e at ≡ false → Judges (one_handler_at classes frames at f e) (Ok tt)
+  not_covering b = record { outcome = ap (λ z. least (conditions_if z)) b }
+
+-- the answer of the frame in which an exception is caught is that against the entry
+pub covering : (x : NumberedFrames) (at : ℕ) (e : ExceptionEntry) (h : Handler) → IsHandler x.types x.declared e h → covers e at ≡ true → (o : Outcome)
+    → o ≡ frame_answer x.types.classes (frame_by x.types (record x.running { stack = h.caught ∷ [] })) (frame_by x.types (declared_frame x h.frame))
+    → (r : Result Unit Reason) → Judges (answer_conditions 73 o) r → Judges (one_handler_at x.types.classes (frames_by x.types x.declared) at (held x) e) r
+covering x at e h is b o told r j = subst (λ cs. Judges cs r) (sym all) j
+  where
+    classes : List ClassFact
+    classes = x.types.classes
+
+    frames : Frames
+    frames = frames_by x.types x.declared
+
+    type_is : type_by x.types h.caught ≡ to_reference e.caught
+    type_is = number_read x.types h.caught (to_reference e.caught) is.caught
+
+    told_by : o ≡ frame_answer classes (caught_frame e (held x)) (frame_by x.types (declared_frame x h.frame))
+    told_by = told ∙ ap (λ t. frame_answer classes (with_stack (held x) (t ∷ [])) (frame_by x.types (declared_frame x h.frame))) type_is
+
+    all : one_handler_at classes frames at (held x) e ≡ answer_conditions 73 o
+    all =
+        ap (conditions_if classes frames at (held x) e) b
+        ∙ ap (λ d. one_handler classes d (caught_frame e (held x))) is.frame.place.declared
+        ∙ ap (answer_conditions 73) (sym told_by)
+
+-- an entry is passed over whose handler the frame comes to
+pub taken_before : (x : NumberedFrames) (at : ℕ) (e : ExceptionEntry) → covers e at ≡ true → IsTaken x.types x.declared (held x) e
+    → Judges (one_handler_at x.types.classes (frames_by x.types x.declared) at (held x) e) (Ok tt)
+taken_before x at e b taken = record {
+  outcome =
+      ap (λ z. least (conditions_if x.types.classes (frames_by x.types x.declared) at (held x) e z)) b
+      ∙ none_of_yes x.types.classes (at_offset (frames_by x.types x.declared) e.handler) (caught_frame e (held x)) taken;
+}
+
+-- ---- where an entry covers
+
+-- before its range
+pub alike_before : (e : ExceptionEntry) (at i : ℕ) → at < e.from → i < e.from → covers e i ≡ covers e at
+alike_before e at i a b =
+    let before : nat_le e.from i ≡ false = grind (arith, nat_tests, b) in
+    let here : nat_le e.from at ≡ false = grind (arith, nat_tests, a) in
+    rw (before, here) refl
+
+-- within it
+pub alike_within : (e : ExceptionEntry) (at i : ℕ) → e.from ≤ at → at < e.to → at ≤ i → i < e.to → covers e i ≡ covers e at
+alike_within e at i a b le lt =
+    let one : nat_le e.from i ≡ true = grind (arith, nat_tests, a, le) in
+    let two : nat_lt i e.to ≡ true = grind (arith, nat_tests, lt) in
+    let three : nat_le e.from at ≡ true = grind (arith, nat_tests, a) in
+    let four : nat_lt at e.to ≡ true = grind (arith, nat_tests, b) in
+    rw (one, two, three, four) refl
+
+-- behind it
+pub alike_past : (e : ExceptionEntry) (at i : ℕ) → e.from ≤ at → e.to ≤ at → at ≤ i → covers e i ≡ covers e at
+alike_past e at i a b le =
+    let one : nat_le e.from i ≡ true = grind (arith, nat_tests, a, le) in
+    let two : nat_lt i e.to ≡ false = grind (arith, nat_tests, b, le) in
+    let three : nat_le e.from at ≡ true = grind (arith, nat_tests, a) in
+    let four : nat_lt at e.to ≡ false = grind (arith, nat_tests, b) in
+    rw (one, two, three, four) refl

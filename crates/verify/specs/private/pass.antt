@@ -1,0 +1,7 @@
+-- Words of the pass over a method's code.
+pub mod Exceptions
+pub mod Finding
+pub mod Following
+pub mod Maps
+pub mod ClassTypes
+pub mod Objects

@@ -1,0 +1,29 @@
+//! The pass over a method's code, on frames whose types are numbers: [`judge_body`], proved against the verdict in
+//! specs/Verdict.antt.
+//!
+//! - `declared`: the frames that are declared, by their offsets.
+//! - `entering`: the frame that comes to an instruction, and the one that is declared there.
+//! - `targets`: where an instruction branches to.
+//! - `exceptions`: the exception table, judged and made ready for the pass.
+//! - `handlers`: the exception handlers during the pass.
+//! - `members`: the protected member that an instruction uses.
+//! - `judging`: one instruction.
+//! - `passing`: one pass over the code, which carries one frame.
+//! - `method`: a method, by its stack map, its exception table and then its code.
+//! - `class_types`: the numbers that the types of a class get before the code of its methods is judged.
+//! - `class_numbers`: of these, what the rules of the instructions of all methods ask for.
+
+mod class_numbers;
+mod class_types;
+mod declared;
+mod entering;
+mod exceptions;
+mod handlers;
+mod judging;
+mod members;
+mod method;
+mod passing;
+mod targets;
+
+pub use class_types::ClassTypes;
+pub use method::judge_body;

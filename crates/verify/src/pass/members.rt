@@ -1,0 +1,138 @@
+//! The protected member that an instruction uses (JVMS 4.10.1.8), and whether it calls a constructor on the own object.
+ghost use Rattle.std.specs.Prelude.{◌≡◌, ℕ, List, [], drop, option_map};
+ghost use Rattle.hierarchy.specs.Answer.{outcome_of};
+ghost use Rattle.insn.specs.Stacks.{beneath};
+ghost use Rattle.insn.specs.Views.{act_view};
+ghost use Rattle.frames.specs.DeclaredFrames.{is_uninit_this};
+ghost use Rattle.frames.specs.VerificationType.{VerificationType, class as class_of, type_of};
+ghost use Rattle.pool.specs.ConstantViews.{method_constant_view};
+ghost use Rattle.type_numbers.specs.Numbers.{IsNumber, IsGiven};
+ghost use Rattle.type_numbers.specs.Decoding.{type_by};
+ghost use Rattle.rules.specs.TypingRules.{arguments_on};
+ghost use Rattle.rules.specs.After.{top_of};
+ghost use Rattle.rules.specs.Bodies.{method_view};
+ghost use Rattle.rules.specs.Constants.{invoke_special};
+ghost use Rattle.rules.specs.Naming.{IsNamed};
+ghost use Rattle.rules.specs.Outcomes.{Judges};
+ghost use Rattle.rules.specs.Protected.{member_conditions, object_answer};
+ghost use Rattle.rules.specs.Rules.{constructs_own};
+ghost use Rattle.rules.specs.Table.{typing_rule};
+ghost use Rattle.numbered_rules.specs.Held.{held};
+ghost use Rattle.verify.specs.private.pass.Objects.{is_array_type};
+
+use classfile::CodeMethod;
+use frames::{VType, is_own};
+use hierarchy::{Answer, Classes};
+use insn::Act;
+use method_frames::MethodFrames;
+use numbered_rules::TOP;
+use pool::MethodConstant;
+use rules::{Members, Named, Reason, check_object, is_constructor, special_index, used_by};
+use type_numbers::TypeNumbers;
+
+/// The type of the item of the running frame's stack that so many stand above; top where there is none.
+fn item_beneath<'n, C: Classes>(above: usize, frames: &MethodFrames<'_, '_, 'n, C>) -> u32
+    ensures given { IsGiven frames.now.types result }
+    ensures item { type_by frames.now.types result ≡ top_of (drop above (held frames.now).stack) }
+{
+    match frames.item(above) {
+        Some(number) => number,
+        None => TOP,
+    }
+}
+
+/// Whether a type is that of an array.
+fn is_array(t: &VType<'_>) -> bool
+    ensures { result ≡ is_array_type (type_of t.now) }
+{
+    matches!(t, VType::Array { .. })
+}
+
+/// Whether an object may be one of a class, by their numbers. No array is, whatever the class.
+fn object_answer<'n, C: Classes>(
+    object: u32,
+    class: u32,
+    types: &TypeNumbers<'_, 'n, C>,
+) -> Answer<'n>
+    requires object { IsGiven types.now object }
+    requires class { IsGiven types.now class }
+    ensures { (t : VerificationType) (name : List ℕ) → IsNumber types.now object t
+        → IsNumber types.now class (class_of name) → outcome_of result ≡ object_answer types.now.classes name t }
+{
+    if is_array(&types.vtype(object)) {
+        return Answer::No;
+    }
+    types.assignable(object, class)
+}
+
+/// Judges an instruction, in the frame before it, by the member that it uses: where that is guarded, 82 unless the
+/// object is one of the current class, of which this is the number, and 77 where a class is missing; or 1 where memory
+/// runs out.
+pub fn check_member<'a, C: Classes>(
+    method: &CodeMethod<'_, 'a>,
+    act: &Act<'a>,
+    named: &Named<'a>,
+    class: u32,
+    members: &mut Members<'_, '_, 'a, C>,
+    frames: &MethodFrames<'_, '_, 'a, C>,
+) -> Result<(), Reason<'a>>
+    requires named { IsNamed (method_view method.now) (act_view act.now) named.now }
+    requires class { IsNumber frames.now.types class (class_of (method_view method.now).class) }
+    requires members { members.old ≡ record { class = method.now.class.now; classes = frames.now.types.classes } }
+    ensures same { members.new ≡ members.old }
+    ensures judged { Judges (member_conditions frames.now.types.classes (method_view method.now) (act_view act.now)
+        (held frames.now)) result }
+{
+    let Some(member) = used_by(method, act, named) else {
+        return Ok(());
+    };
+    if !members.is_guarded(member.index)? {
+        return Ok(());
+    }
+    let object = item_beneath(member.above, frames);
+    check_object(object_answer(object, class, frames.types()))
+}
+
+/// Whether the own object, not initialized, stands beneath the arguments.
+fn is_on_own<'a, C: Classes>(
+    called: &MethodConstant<'a>,
+    frames: &MethodFrames<'_, '_, 'a, C>,
+) -> bool
+    ensures { result ≡ is_uninit_this
+        (top_of (beneath (arguments_on (method_constant_view called.now).type.params []) (held frames.now).stack)) }
+{
+    let object = item_beneath(called.method_type.params.len(), frames);
+    is_own(&frames.types().vtype(object))
+}
+
+/// Whether `invokespecial` of the method calls a constructor on the own object.
+fn calls_on_own<'a, C: Classes>(
+    named: Option<&MethodConstant<'a>>,
+    frames: &MethodFrames<'_, '_, 'a, C>,
+) -> bool
+    ensures { (major : ℕ) (me : List ℕ)
+        → result ≡ constructs_own (invoke_special major me (option_map (λ c. method_constant_view c.now) named.entry))
+        (held frames.now) }
+{
+    match named {
+        None => false,
+        Some(called) => is_constructor(called) && is_on_own(called, frames),
+    }
+}
+
+/// Whether an instruction with this act calls a constructor on the own object, which is not initialized (JVMS 4.10.1.9,
+/// invokespecial).
+pub fn constructs_own<'a, C: Classes>(
+    method: &CodeMethod<'_, 'a>,
+    act: &Act<'a>,
+    named: &Named<'a>,
+    frames: &MethodFrames<'_, '_, 'a, C>,
+) -> bool
+    requires { IsNamed (method_view method.now) (act_view act.now) named.now }
+    ensures { result ≡ constructs_own (typing_rule (method_view method.now) (act_view act.now)) (held frames.now) }
+{
+    match special_index(act) {
+        None => false,
+        Some(_) => calls_on_own(named.method(), frames),
+    }
+}
