@@ -4,6 +4,9 @@ pub mod Following
 pub mod Numbered
 pub mod Objects
 pub mod Running
+pub mod Representing
+pub mod Dropping
+pub mod Starting
 pub mod Settling
 pub mod Maps
 pub mod TableEntries

@@ -6,6 +6,7 @@
 //! - `targets`: where an instruction branches to.
 //! - `exceptions`: the exception table, judged and made ready for the pass.
 //! - `handlers`: the exception handlers during the pass.
+//! - `representatives`: frames at handlers that stand for others.
 //! - `members`: the protected member that an instruction uses.
 //! - `judging`: one instruction.
 //! - `passing`: one pass over the code, which carries one frame.
@@ -23,6 +24,7 @@ mod judging;
 mod members;
 mod method;
 mod passing;
+mod representatives;
 mod targets;
 
 pub use class_types::ClassTypes;

@@ -1,5 +1,5 @@
 -- The entries of an exception table while a pass goes over the code.
-use Rattle.std.proofs.Common.{◌≡◌, ◌≢◌, ◌⊎◌, ◌∙◌, ℕ, zero, suc, ◌+◌, ◌≤◌, ◌<◌, Bool, true, false, ◌||◌, nat_lt, nat_le, List, [], ◌∷◌, ◌++◌, length, get_or, slice_get, drop, Option, Some, None, Result, Ok, if◌then◌else◌, refl, sym, ap, subst, inl, inr, arith}
+use Rattle.std.proofs.Common.{◌≡◌, ◌≢◌, ◌⊎◌, ◌∙◌, ℕ, zero, suc, ◌+◌, ◌≤◌, ◌<◌, Bool, true, false, ◌||◌, nat_lt, nat_le, ◌&&◌, List, [], ◌∷◌, ◌++◌, length, get_or, slice_get, drop, Option, Some, None, Result, Ok, if◌then◌else◌, refl, sym, ap, subst, inl, inr, arith}
 use Rattle.std.proofs.lemmas.Bool.{cases_eq}
 use Rattle.std.proofs.lemmas.Bool.Decides.{nat_tests}
 use Rattle.std.proofs.lemmas.List.{append_assoc, append-nil}
@@ -24,12 +24,12 @@ use Rattle.verify.specs.TypeSafety.{Frames, caught_frame}
 use Rattle.verify.specs.Verdict.{answer_conditions, one_handler, handler_conditions, is_covered}
 use Rattle.verify.specs.private.Catching.{answer_at}
 use Rattle.verify.specs.declared.pass.handlers.Handler.{Handler}
-use Rattle.verify.specs.private.pass.Following.{IsHandler, AreHandlers, IsAlike, AreAlikeTo, AreAlike, IsTaken, one_handler_at}
+use Rattle.verify.specs.private.pass.Following.{IsHandler, AreHandlers, one_handler_at}
 
 -- ---- entries one after the other
 
 abbrev pub no_handler : Handler
-no_handler = record { from = 0; to = 0; frame = 0; caught = 0; shared = 0 }
+no_handler = record { from = 0; to = 0; frame = 0; caught = 0; lead = 0 }
 
 pub handler_at : (hs : List Handler) (i : ℕ) → i < length hs → slice_get hs i ≡ Some (get_or hs i no_handler)
 handler_at [] i lt = absurd (omega (arith, lt))
@@ -101,42 +101,7 @@ module _ (classes : List ClassFact) (frames : Frames) where
       ∙ ap (λ z. one_handler_at classes frames at (record { locals = g.locals; stack = f.stack; flag = z }) e ++ all at f es) b
       ∙ ap (λ cs. one_handler_at classes frames at g e ++ cs) (same_beneath at f g es l b)
 
-  -- and on the entries that cover the offset
-  pub alike : (es : List ExceptionEntry) (at end i : ℕ) (f : FrameFact) → AreAlike es at end → at ≤ i → i < end → all i f es ≡ all at f es
-  alike [] at end i f a le lt = refl
-  alike (e ∷ es) at end i f a le lt =
-      ap (λ b. (if b then one_handler classes (at_offset frames e.handler) (caught_frame e f) else []) ++ all i f es) (a 0 e (omega arith) refl i le lt)
-      ∙ ap (λ cs. one_handler_at classes frames at f e ++ cs) (alike es at end i f (λ k x less here. a (suc k) x (omega (arith, less)) here) le lt)
-
--- ---- the entries up to a place
-
-module _ (s : Numbering) (ds : List (ℕ × NumberedFrame)) (es : List ExceptionEntry) (hs : List Handler) (i : ℕ) (a : AreHandlers s ds es hs) (lt : i < length hs) where
-  abbrev one : HasEntry s ds es i (get_or hs i no_handler)
-  one = has_entry s ds es hs i no_handler a lt
-
-  same_entry : (x y : ExceptionEntry) → Some x ≡ Some y → x ≡ y
-  same_entry x y e = cc
-
-  -- one more is like it was
-  pub alike_more : (at end one_end now : ℕ) → now ≤ end → now ≤ one_end → AreAlikeTo i es at end → IsAlike one.entry at one_end → AreAlikeTo (i + 1) es at now
-  alike_more at end one_end now le less so is k e few here j from to = by (cases_eq k i)
-    where
-      by : (k ≡ i) ⊎ (k ≢ i) → covers e j ≡ covers e at
-      by (inl q) =
-          let there : e ≡ one.entry = same_entry e one.entry (sym here ∙ ap (slice_get es) q ∙ one.got) in
-          subst (λ x. covers x j ≡ covers x at) (sym there) (is j from (omega (arith, to, less)))
-      by (inr ne) = so k e (omega (arith, few, ne)) here j from (omega (arith, to, le))
-
-  -- one more does not cover the offset
-  pub bare_more : (at : ℕ) → ((k : ℕ) (e : ExceptionEntry) → k < i → slice_get es k ≡ Some e → covers e at ≡ false) → covers one.entry at ≡ false
-      → (k : ℕ) (e : ExceptionEntry) → k < i + 1 → slice_get es k ≡ Some e → covers e at ≡ false
-  bare_more at so is k e few here = by (cases_eq k i)
-    where
-      by : (k ≡ i) ⊎ (k ≢ i) → covers e at ≡ false
-      by (inl q) =
-          let there : e ≡ one.entry = same_entry e one.entry (sym here ∙ ap (slice_get es) q ∙ one.got) in
-          subst (λ x. covers x at ≡ false) (sym there) is
-      by (inr ne) = so k e (omega (arith, few, ne)) here
+-- ---- whether an entry covers an offset
 
 pub covered_by : (es : List ExceptionEntry) (at k : ℕ) (e : ExceptionEntry) → slice_get es k ≡ Some e → covers e at ≡ true → is_covered es at ≡ true
 covered_by [] at k e here is = cc
@@ -197,38 +162,25 @@ covering x at e h is b o told r j = subst (λ cs. Judges cs r) (sym all) j
         ∙ ap (λ d. one_handler classes d (caught_frame e (held x))) is.frame.place.declared
         ∙ ap (answer_conditions 73) (sym told_by)
 
--- an entry is passed over whose handler the frame comes to
-pub taken_before : (x : NumberedFrames) (at : ℕ) (e : ExceptionEntry) → covers e at ≡ true → IsTaken x.types x.declared (held x) e
-    → Judges (one_handler_at x.types.classes (frames_by x.types x.declared) at (held x) e) (Ok tt)
-taken_before x at e b taken = record {
-  outcome =
-      ap (λ z. least (conditions_if x.types.classes (frames_by x.types x.declared) at (held x) e z)) b
-      ∙ none_of_yes x.types.classes (at_offset (frames_by x.types x.declared) e.handler) (caught_frame e (held x)) taken;
-}
-
 -- ---- where an entry covers
 
--- before its range
-pub alike_before : (e : ExceptionEntry) (at i : ℕ) → at < e.from → i < e.from → covers e i ≡ covers e at
-alike_before e at i a b =
-    let before : nat_le e.from i ≡ false = grind (arith, nat_tests, b) in
-    let here : nat_le e.from at ≡ false = grind (arith, nat_tests, a) in
-    rw (before, here) refl
+-- it has begun and has not ended
+pub begun_covers : (e : ExceptionEntry) (at : ℕ) → e.from ≤ at → at < e.to → covers e at ≡ true
+begun_covers e at le lt =
+    let starts : nat_le e.from at ≡ true = grind (arith, nat_tests, le) in
+    let ends : nat_lt at e.to ≡ true = grind (arith, nat_tests, lt) in
+    rw (starts, ends) refl
 
--- within it
-pub alike_within : (e : ExceptionEntry) (at i : ℕ) → e.from ≤ at → at < e.to → at ≤ i → i < e.to → covers e i ≡ covers e at
-alike_within e at i a b le lt =
-    let one : nat_le e.from i ≡ true = grind (arith, nat_tests, a, le) in
-    let two : nat_lt i e.to ≡ true = grind (arith, nat_tests, lt) in
-    let three : nat_le e.from at ≡ true = grind (arith, nat_tests, a) in
-    let four : nat_lt at e.to ≡ true = grind (arith, nat_tests, b) in
-    rw (one, two, three, four) refl
+pub covered_starts : (e : ExceptionEntry) (at : ℕ) → covers e at ≡ true → e.from ≤ at
+covered_starts e at c = let q = left_true (nat_le e.from at) (nat_lt at e.to) c in grind (arith, nat_tests, q)
+  where
+    left_true : (a b : Bool) → a && b ≡ true → a ≡ true
+    left_true true b r = refl
+    left_true false b r = cc
 
--- behind it
-pub alike_past : (e : ExceptionEntry) (at i : ℕ) → e.from ≤ at → e.to ≤ at → at ≤ i → covers e i ≡ covers e at
-alike_past e at i a b le =
-    let one : nat_le e.from i ≡ true = grind (arith, nat_tests, a, le) in
-    let two : nat_lt i e.to ≡ false = grind (arith, nat_tests, b, le) in
-    let three : nat_le e.from at ≡ true = grind (arith, nat_tests, a) in
-    let four : nat_lt at e.to ≡ false = grind (arith, nat_tests, b) in
-    rw (one, two, three, four) refl
+pub covered_ends : (e : ExceptionEntry) (at : ℕ) → covers e at ≡ true → at < e.to
+covered_ends e at c = let q = right_true (nat_le e.from at) (nat_lt at e.to) c in grind (arith, nat_tests, q)
+  where
+    right_true : (a b : Bool) → a && b ≡ true → b ≡ true
+    right_true true b r = r
+    right_true false b r = cc

@@ -1,6 +1,5 @@
 -- Exception tables by the numbers of the types that are caught, as they are made and as they are judged.
 use Rattle.std.proofs.Common.{◌≡◌, ◌⊎◌, ◌∙◌, ℕ, zero, suc, ◌+◌, ◌-◌, ◌≤◌, ◌<◌, pos, Bool, true, false, not, nat_lt, ◌&&◌, List, [], ◌∷◌, ◌++◌, length, map, get_or, drop, slice_get, Option, Some, None, Ok, Err, refl, sym, ap, subst, arith, inl, inr}
-use Rattle.std.specs.Prelude.{IfSome}
 use Rattle.std.proofs.lemmas.Bool.Decides.{nat_tests}
 use Rattle.std.proofs.lemmas.List.{drop_more, drop_all, append-nil, append_assoc}
 use Rattle.names.specs.ReferenceTypes.{ReferenceType}
@@ -29,9 +28,9 @@ use Rattle.verify.specs.TypeSafety.{Frames}
 use Rattle.verify.specs.Verdict.{Verdict, refused_or, answer_conditions, is_end, table_judged}
 use Rattle.verify.specs.declared.pass.exceptions.Entry.{Entry}
 use Rattle.verify.specs.declared.pass.handlers.Handler.{Handler}
-use Rattle.verify.specs.private.pass.Exceptions.{IsEntryBy, AreEntriesBy, HasEntries, has_places, IsPlaced, entry_conditions, JudgesEntry, IsHandlerBehind, JudgesTable}
+use Rattle.verify.specs.private.pass.Exceptions.{IsEntryBy, AreEntriesBy, HasEntries, has_places, IsPlaced, entry_conditions, JudgesEntry, JudgesTable}
 use Rattle.verify.specs.private.pass.Finding.{IsFound}
-use Rattle.verify.specs.private.pass.Following.{IsHandler, AreHandlers, AreShared, SharesLocals}
+use Rattle.verify.specs.private.pass.Following.{IsHandler, AreHandlers}
 
 -- ---- entries as they are made
 
@@ -213,54 +212,6 @@ module _ (x : NumberedFrames) (m : Method Act) (e : ExceptionEntry) where
   pub takes_placed : (frame : ℕ) (u : Unit {0}) → IsPlaced x m e (Some frame) → Judges (answer_conditions 72 throws) (Ok u) → JudgesEntry x m e (IsFound x.types x.declared (pos e.handler)) (Ok frame)
   takes_placed frame u q j = record { outcome = (placed q.0 ∙ j.outcome, q.1) }
 
--- ---- locals in common
-
--- the last one
-abbrev last_of : List Handler → Option Handler
-last_of [] = None
-last_of (h ∷ []) = Some h
-last_of (h ∷ g ∷ hs) = last_of (g ∷ hs)
-
-pub before_is : (ys hs : List Handler) (before last : Option Handler) → before ≡ last → last ≡ slice_get ys (length ys - 1) → ys ≡ hs → before ≡ slice_get hs (length hs - 1)
-before_is ys hs before last is value same = is ∙ value ∙ ap (λ (zs : List Handler). slice_get zs (length zs - 1)) same
-
-last_is : (hs : List Handler) → slice_get hs (length hs - 1) ≡ last_of hs
-last_is [] = refl
-last_is (h ∷ []) = refl
-last_is (h ∷ g ∷ hs) =
-    let one : length (h ∷ g ∷ hs) - 1 ≡ suc (length (g ∷ hs) - 1) = omega arith in
-    ap (slice_get (h ∷ g ∷ hs)) one ∙ last_is (g ∷ hs)
-
-next : (k : ℕ) → suc k + 1 ≡ suc (k + 1)
-next k = omega arith
-
-module _ (ds : List (ℕ × NumberedFrame)) where
-  one_shared : (h : Handler) → AreShared ds (h ∷ [])
-  one_shared h zero x y a b = absurd (cc)
-  one_shared h (suc k) x y a b = absurd (cc)
-
-  pub none_shared : AreShared ds []
-  none_shared k x y a b = absurd (cc)
-
-  shared_on : (hs : List Handler) (h : Handler) → IfSome (last_of hs) (λ g. SharesLocals ds g h) → AreShared ds hs → AreShared ds (hs ++ h ∷ [])
-  shared_on [] h last a = one_shared h
-  shared_on (x ∷ []) h last a = two
-    where
-      two : AreShared ds (x ∷ h ∷ [])
-      two zero y z e f =
-          let one : x ≡ y = cc in
-          let other : h ≡ z = cc in
-          subst (λ w. SharesLocals ds w z) one (subst (SharesLocals ds x) other last)
-      two (suc k) y z e f = one_shared h k y z e (sym (ap (slice_get (x ∷ h ∷ [])) (next k)) ∙ f)
-  shared_on (x ∷ w ∷ hs) h last a = more (shared_on (w ∷ hs) h last (λ j y z e f. a (suc j) y z e (ap (slice_get (x ∷ w ∷ hs)) (next j) ∙ f)))
-    where
-      more : AreShared ds (w ∷ (hs ++ h ∷ [])) → AreShared ds (x ∷ w ∷ (hs ++ h ∷ []))
-      more so zero y z e f = a 0 y z e f
-      more so (suc k) y z e f = so k y z e (sym (ap (slice_get (x ∷ w ∷ (hs ++ h ∷ []))) (next k)) ∙ f)
-
-  pub shared_more : (hs : List Handler) (h : Handler) (before : Option Handler) → before ≡ slice_get hs (length hs - 1) → IfSome before (λ g. SharesLocals ds g h) → AreShared ds hs → AreShared ds (hs ++ h ∷ [])
-  shared_more hs h before is last a = shared_on hs h (subst (λ o. IfSome o (λ g. SharesLocals ds g h)) (is ∙ last_is hs) last) a
-
 -- ---- the table as it is judged
 
 module _ (s : Numbering) (ds : List (ℕ × NumberedFrame)) where
@@ -269,13 +220,6 @@ module _ (s : Numbering) (ds : List (ℕ × NumberedFrame)) where
   handlers_pushed [] (g ∷ gs) e h a is = absurd a
   handlers_pushed (d ∷ es) [] e h a is = absurd a
   handlers_pushed (d ∷ es) (g ∷ gs) e h a is = (a.0, handlers_pushed es gs e h a.1 is)
-
-  within : (es : List ExceptionEntry) (hs : List Handler) → AreHandlers s ds es hs → (k : ℕ) (g : Handler) → slice_get hs k ≡ Some g → g.frame < length ds
-  within [] [] a k g e = absurd (cc)
-  within [] (h ∷ hs) a k g e = absurd a
-  within (d ∷ es) [] a k g e = absurd a
-  within (d ∷ es) (h ∷ hs) a zero g e = let one : h ≡ g = cc in subst (λ (z : Handler). z.frame < length ds) one a.0.frame.within
-  within (d ∷ es) (h ∷ hs) a (suc k) g e = within es hs a.1 k g e
 
 module _ (x : NumberedFrames) (m : Method Act) (es : List ExceptionEntry) where
   abbrev judged : List ExceptionEntry → Verdict → Verdict
@@ -286,35 +230,32 @@ module _ (x : NumberedFrames) (m : Method Act) (es : List ExceptionEntry) where
     pub done : List ExceptionEntry
     pub parts : done ++ left ≡ es
     pub handlers : AreHandlers x.types x.declared done hs
-    pub shared : AreShared x.declared hs
     pub judged_on : (rest : Verdict) → judged es rest ≡ judged left rest
 
   pub built_none : Built es []
-  built_none = record { done = []; parts = refl; handlers = tt; shared = none_shared x.declared; judged_on = λ rest. refl }
+  built_none = record { done = []; parts = refl; handlers = tt; judged_on = λ rest. refl }
 
   module _ (left : List ExceptionEntry) (hs : List Handler) (built : Built left hs) where
-    pub last_within : (before : Option Handler) (k : ℕ) → before ≡ slice_get hs k → IfSome before (λ g. g.frame < length x.declared)
-    last_within None k is = tt
-    last_within (Some g) k is = within x.types x.declared built.done hs built.handlers k g (sym is)
-
     module _ (e : ExceptionEntry) (others : List ExceptionEntry) (here : left ≡ e ∷ others) where
       judged_here : (rest : Verdict) → judged left rest ≡ refused_or (least (entry_conditions x m e)) 0 (judged others rest)
       judged_here rest = ap (λ z. judged z rest) here
 
-      pub built_more : (before : Option Handler) → before ≡ slice_get hs (length hs - 1) → (h : Handler) → (least (entry_conditions x m e) ≡ None) × IsHandlerBehind x e before h
-          → (now : List Handler) → now ≡ hs ++ h ∷ [] → Built others now
-      built_more before last h is now pushed = record {
+      pub built_more : (h : Handler) → (least (entry_conditions x m e) ≡ None) × IsHandler x.types x.declared e h → (now : List Handler) → now ≡ hs ++ h ∷ [] → Built others now
+      built_more h is now pushed = record {
         done = built.done ++ e ∷ [];
         parts = append_assoc built.done (e ∷ []) others ∙ ap (λ z. built.done ++ z) (sym here) ∙ built.parts;
-        handlers = subst (AreHandlers x.types x.declared (built.done ++ e ∷ [])) (sym pushed) (handlers_pushed x.types x.declared built.done hs e h built.handlers is.1.handler);
-        shared = subst (AreShared x.declared) (sym pushed) (shared_more x.declared hs h before last is.1.shared built.shared);
-        judged_on = λ rest. built.judged_on rest ∙ judged_here rest ∙ ap (λ z. refused_or z 0 (judged others rest)) is.0;
+        handlers = subst (AreHandlers x.types x.declared (built.done ++ e ∷ [])) (sym pushed) (handlers_pushed x.types x.declared built.done hs e h built.handlers is.1);
+        judged_on = λ rest. built.judged_on rest ∙ judged_here rest ∙ ap (λ q. refused_or q 0 (judged others rest)) is.0;
       }
 
       pub stops : {A : Type 0} (why : Reason) → (why ≡ OutOfMemory) ⊎ (least (entry_conditions x m e) ≡ Some (reason_view why))
           → JudgesTable {A = A} x.types.classes m (frames_by x.types x.declared) es (Err why)
       stops why (inl z) = record { outcome = inl z }
       stops why (inr z) = record { outcome = inr (λ rest. built.judged_on rest ∙ judged_here rest ∙ ap (λ q. refused_or q 0 (judged others rest)) z) }
+
+  -- a table without entries
+  pub judged_empty : {A : Type 0} (made : A) → es ≡ [] → JudgesTable x.types.classes m (frames_by x.types x.declared) es (Ok made)
+  judged_empty made none = record { outcome = λ rest. ap (λ z. judged z rest) none }
 
   module _ (left : List ExceptionEntry) (hs : List Handler) (built : Built left hs) (end : left ≡ []) where
     pub all_handlers : AreHandlers x.types x.declared es hs

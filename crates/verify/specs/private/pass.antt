@@ -5,3 +5,4 @@ pub mod Following
 pub mod Maps
 pub mod ClassTypes
 pub mod Objects
+pub mod Representatives

@@ -13,9 +13,10 @@ ghost use Rattle.numbered_rules.specs.Running.{AreRuleNumbers};
 ghost use Rattle.rules.specs.Bodies.{method_view};
 ghost use Rattle.type_numbers.specs.Numbers.{Numbering, IsNumberOf};
 ghost use Rattle.verify.specs.Verdict.{is_end};
-ghost use Rattle.verify.specs.private.pass.Exceptions.{IsEntryBy, AreEntriesBy, HasEntries, is_placed, IsPlaced, JudgesEntry, IsHandlerBehind, JudgesTable};
+ghost use Rattle.verify.specs.private.pass.Exceptions.{IsEntryBy, AreEntriesBy, HasEntries, is_placed, IsPlaced, JudgesEntry, JudgesTable};
 ghost use Rattle.verify.specs.private.pass.Finding.{IsFound};
-ghost use Rattle.verify.specs.private.pass.Following.{AreHandlers, AreShared, SharesLocals};
+ghost use Rattle.verify.specs.private.pass.Following.{IsHandler, AreHandlers};
+ghost use Rattle.verify.specs.private.pass.Representatives.{IsLead, AreLeads};
 
 use crate::flow::check_answer;
 use crate::pass::declared::declared_in;
@@ -162,49 +163,86 @@ fn judge_entry<'n, C: Classes>(
     Ok(frame)
 }
 
-/// How many local variables, from 0 up, the frame at a handler has in common with that of the entry before it; none
-/// where there is no such entry.
-fn shared_locals<C: Classes>(
-    before: Option<Handler>,
+/// A frame that stands for a declared one, since it has the same locals: one that stands for the frame before it, where
+/// that has them.
+fn lead_of<C: Classes>(
+    before: Option<usize>,
     frame: usize,
     frames: &MethodFrames<'_, '_, '_, C>,
 ) -> usize
-    requires before { IfSome before (λ g. g.frame < length frames.now.declared) }
+    requires before { IfSome before (λ lead. lead < length frames.now.declared) }
     requires frame { frame < length frames.now.declared }
-    ensures { (h : Handler) → h.frame ≡ frame → h.shared ≡ result
-        → IfSome before (λ g. SharesLocals frames.now.declared g h) }
+    ensures { IsLead frames.now.declared result frame }
 {
-    let Some(before) = before else {
-        return 0;
+    let Some(lead) = before else {
+        return frame;
     };
-    match frames.first_unequal(before.frame, frame) {
-        Some(place) => place,
-        None => usize::from(frames.max_locals()),
+    match frames.first_unequal(frame, lead) {
+        Some(_) => frame,
+        None => lead,
     }
 }
 
-/// The handler of an entry behind another one, if there is one. The entry is refused 72 or 77.
+/// For each declared frame one that stands for it.
+fn leads_of<C: Classes>(
+    alloc: Global,
+    frames: &MethodFrames<'_, '_, '_, C>,
+) -> Result<Vec<usize>, AllocError>
+    ensures { IfOk result (λ v. AreLeads frames.now.declared v.items) }
+{
+    let mut leads: Vec<usize> = Vec::with_capacity(alloc, frames.count())?;
+    for frame in 0..frames.count() {
+        let lead = lead_of(leads.last().copied(), frame, frames);
+        leads.push(lead)?;
+    }
+    Ok(leads)
+}
+
+/// The handler of an entry. The entry is refused 72 or 77.
 fn handler_of<'n, C: Classes>(
     entry: &Entry,
-    before: Option<Handler>,
+    leads: &[usize],
     body: &Body<'_, '_>,
     frames: &MethodFrames<'_, '_, 'n, C>,
 ) -> Result<Handler, Reason<'n>>
     requires numbers { AreRuleNumbers frames.now.types (method_view body.now.method.now) body.now.numbers }
     requires entry { (e : ExceptionEntry) × IsEntryBy frames.now.types e entry.now }
-    requires before { IfSome before (λ g. g.frame < length frames.now.declared) }
+    requires leads { AreLeads frames.now.declared leads.now }
     ensures { let x = frames.now in (e : ExceptionEntry) → IsEntryBy x.types e entry.now
-        → JudgesEntry x (method_view body.now.method.now) e (IsHandlerBehind x e before) result }
+        → JudgesEntry x (method_view body.now.method.now) e (IsHandler x.types x.declared e) result }
 {
     let frame = judge_entry(entry, body, frames)?;
-    let shared = shared_locals(before, frame, frames);
     Ok(Handler {
         from: entry.from,
         to: entry.to,
         frame,
         caught: entry.caught,
-        shared,
+        lead: leads[frame],
     })
+}
+
+/// Judges entries of an exception table, and makes them ready for the pass. Each declared frame has a lead.
+fn judge_entries<'n, C: Classes>(
+    alloc: Global,
+    entries: &[Entry],
+    leads: &[usize],
+    body: &Body<'_, '_>,
+    frames: &MethodFrames<'_, '_, 'n, C>,
+) -> Result<Vec<Handler>, Reason<'n>>
+    requires numbers { AreRuleNumbers frames.now.types (method_view body.now.method.now) body.now.numbers }
+    requires entries { AreEntriesBy frames.now.types (method_view body.now.method.now).exceptions entries.now }
+    requires leads { AreLeads frames.now.declared leads.now }
+    ensures handlers { let x = frames.now in
+        IfOk result (λ v. AreHandlers x.types x.declared (method_view body.now.method.now).exceptions v.items) }
+    ensures judged { let x = frames.now in let m = method_view body.now.method.now in
+        JudgesTable x.types.classes m (frames_by x.types x.declared) m.exceptions result }
+{
+    let mut table: Vec<Handler> = Vec::with_capacity(alloc, entries.len())?;
+    for entry in entries {
+        let handler = handler_of(entry, leads, body, frames)?;
+        table.push(handler)?;
+    }
+    Ok(table)
 }
 
 /// Judges an exception table by the frames that are declared, and makes it ready for the pass: the first entry that is
@@ -220,15 +258,12 @@ pub fn handlers_of<'n, C: Classes>(
     requires entries { AreEntriesBy frames.now.types (method_view body.now.method.now).exceptions entries.now }
     ensures handlers { let x = frames.now in
         IfOk result (λ v. AreHandlers x.types x.declared (method_view body.now.method.now).exceptions v.items) }
-    ensures shared { IfOk result (λ v. AreShared frames.now.declared v.items) }
     ensures judged { let x = frames.now in let m = method_view body.now.method.now in
         JudgesTable x.types.classes m (frames_by x.types x.declared) m.exceptions result }
 {
-    let mut table: Vec<Handler> = Vec::with_capacity(alloc, entries.len())?;
-    for entry in entries {
-        let before = table.last().copied();
-        let handler = handler_of(entry, before, body, frames)?;
-        table.push(handler)?;
+    if entries.is_empty() {
+        return Ok(Vec::new(alloc));
     }
-    Ok(table)
+    let leads = leads_of(alloc, frames)?;
+    judge_entries(alloc, entries, &leads, body, frames)
 }

@@ -13,7 +13,7 @@ ghost use Rattle.rules.specs.Table.{typing_rule};
 ghost use Rattle.verify.specs.Verdict.{at_conditions, is_covered};
 ghost use Rattle.verify.specs.private.JudgingSteps.{aside_conditions};
 ghost use Rattle.numbered_rules.specs.Running.{AreRuleNumbers};
-ghost use Rattle.verify.specs.private.pass.Following.{Follows, IsOnward};
+ghost use Rattle.verify.specs.private.pass.Following.{Follows, AreAhead, IsOnward};
 
 use crate::flow::check_end;
 use crate::pass::handlers::Handlers;
@@ -83,7 +83,7 @@ fn judge_named<'a, C: Classes>(
 /// one.
 fn covers_constructor(own: bool, at: u16, handlers: &Handlers) -> bool
     ensures { (x : NumberedFrames) (es : List ExceptionEntry) → Follows x es at handlers.now
-        → result ≡ (own && is_covered es at) }
+        → AreAhead at handlers.now → result ≡ (own && is_covered es at) }
 {
     own && handlers.covers(at)
 }
@@ -104,6 +104,7 @@ fn judge_wholly<'a, C: Classes>(
     requires locals { length frames.old.running.locals ≡ body.now.method.now.code.now.max_locals }
     requires numbers { AreRuleNumbers frames.old.types (method_view body.now.method.now) body.now.numbers }
     requires handlers { Follows frames.old (method_view body.now.method.now).exceptions at compared.old.handlers }
+    requires ahead { AreAhead at compared.old.handlers }
     ensures same { constants.new.members ≡ constants.old.members }
     ensures judged { (next : Option ℕ) → is_none next ≡ last →
         let s = frames.old.types in let m = method_view body.now.method.now in let f = held frames.old in
@@ -159,6 +160,7 @@ pub fn judge<'a, C: Classes>(
     ensures handlers { let m = method_view body.now.method.now in
         OnOk result (Follows frames.new m.exceptions at compared.new.handlers) }
 {
+    compared.handlers.come_to(at);
     if !last && is_plain(act) && compared.handlers.are_idle(at, frames) {
         return run_plain(body.method, act, &body.numbers, frames);
     }

@@ -153,7 +153,7 @@ fn judge_code<'a, C: Classes>(
     let mut targets = PlaceSet::new(alloc);
     targets.start(frames.count())?;
     let mut compared = Compared {
-        handlers: Handlers::new(table),
+        handlers: Handlers::new(alloc, table)?,
         targets,
     };
     pass(body, constants, &mut compared, frames)

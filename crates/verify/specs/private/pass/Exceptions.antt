@@ -1,6 +1,6 @@
 -- Exception tables (JVMS 4.7.3) by the numbers of the types that are caught, and the answer about one before the code
 -- is judged (4.10.1.6).
-use Rattle.std.specs.Prelude.{◌≡◌, ◌⊎◌, ◌&&◌, ℕ, pos, false, true, Bool, nat_lt, List, [], ◌∷◌, Option, Some, None, Result, IfSome, MatchOption, MatchResult}
+use Rattle.std.specs.Prelude.{◌≡◌, ◌⊎◌, ◌&&◌, ℕ, pos, false, true, Bool, nat_lt, List, [], ◌∷◌, Option, Some, None, Result, MatchOption, MatchResult}
 use Rattle.classfile.specs.Methods.{Method, ExceptionEntry}
 use Rattle.hierarchy.specs.Class.{ClassFact}
 use Rattle.insn.specs.Meanings.{Act}
@@ -16,9 +16,7 @@ use Rattle.rules.specs.Reasons.{reason_view}
 use Rattle.verify.specs.TypeSafety.{Frames}
 use Rattle.verify.specs.Verdict.{Verdict, refused, is_end, table_conditions, table_judged}
 use Rattle.verify.specs.declared.pass.exceptions.Entry.{Entry}
-use Rattle.verify.specs.declared.pass.handlers.Handler.{Handler}
 use Rattle.verify.specs.private.pass.Finding.{IsFound}
-use Rattle.verify.specs.private.pass.Following.{IsHandler, SharesLocals}
 
 -- ---- the entries
 
@@ -64,12 +62,6 @@ pub record JudgesEntry {A : Type 0} (x : NumberedFrames) (m : Method Act) (e : E
     (r : Result A Reason) : Type 0 where
   pub outcome : MatchResult r (λ a. (least (entry_conditions x m e) ≡ None) × made a)
       (λ why. (why ≡ OutOfMemory) ⊎ (least (entry_conditions x m e) ≡ Some (reason_view why)))
-
--- a handler is that of the entry, and shares locals with the one before, if there is one
-pub record IsHandlerBehind (x : NumberedFrames) (e : ExceptionEntry) (before : Option Handler) (h : Handler)
-    : Type 0 where
-  pub handler : IsHandler x.types x.declared e h
-  pub shared : IfSome before (λ g. SharesLocals x.declared g h)
 
 -- ---- the table
 

@@ -2,8 +2,8 @@ use Rattle.std.proofs.Common.{◌+◌, drop, sym, subst, arith}
 use Rattle.std.proofs.lemmas.List.{drop_all}
 use Rattle.std.proofs.lemmas.Result.{err_from_is_err_and}
 use Rattle.rules.specs.Bodies.{method_view}
-use Rattle.verify.proofs.numbered.TableEntries.{Built, before_is, built_none, has_entry_by, last_within, built_more, stops, all_handlers, all_judged, as_many_entries}
-use Rattle.verify.proofs.pass.exceptions.handlers_of.Goals as goal
+use Rattle.verify.proofs.numbered.TableEntries.{Built, built_none, has_entry_by, built_more, stops, all_handlers, all_judged, as_many_entries}
+use Rattle.verify.proofs.pass.exceptions.judge_entries.Goals as goal
 
 pub loop-entry-init : goal.loop-entry-init
 loop-entry-init g c =
@@ -16,12 +16,6 @@ handler_of-requires-clause-entry g c =
     let m = method_view c.args.body.now.method.now in
     let one = has_entry_by c.args.frames.now.types m.exceptions c.args.entries.now c.loop-entry.entry-index c.requires.entries c.loop-entry-test.true in
     (one.entry, one.is)
-
-pub handler_of-requires-clause-before : goal.handler_of-requires-clause-before
-handler_of-requires-clause-before g c =
-    let m = method_view c.args.body.now.method.now in
-    let last = before_is c.deref.result.now c.loop-entry.table.items c.copied-before.result _ c.copied-before.ensures c.last.ensures.value c.deref.ensures.value in
-    last_within c.args.frames.now m m.exceptions (drop c.loop-entry.entry-index m.exceptions) c.loop-entry.table.items c.loop-entry.invariant c.copied-before.result _ last
 
 pub returns-in_err-handler-clause-judged : goal.returns-in_err-handler-clause-judged
 returns-in_err-handler-clause-judged g c =
@@ -39,8 +33,7 @@ loop-entry-preserved g c =
     let m = method_view c.args.body.now.method.now in
     let i = c.loop-entry.entry-index in
     let one = has_entry_by x.types m.exceptions c.args.entries.now i c.requires.entries c.loop-entry-test.true in
-    let last = before_is c.deref.result.now c.loop-entry.table.items c.copied-before.result _ c.copied-before.ensures c.last.ensures.value c.deref.ensures.value in
-    built_more x m m.exceptions (drop i m.exceptions) c.loop-entry.table.items c.loop-entry.invariant one.entry (drop (i + 1) m.exceptions) one.here c.copied-before.result last c.in_ok-handler.handler
+    built_more x m m.exceptions (drop i m.exceptions) c.loop-entry.table.items c.loop-entry.invariant one.entry (drop (i + 1) m.exceptions) one.here c.in_ok-handler.handler
     (c.in_ok-handler.ensures one.entry one.is).outcome c.push.new.self.items c.in_ok-push.ensures.items
 
 pub returns-clause-handlers : goal.returns-clause-handlers

@@ -1,7 +1,7 @@
 use Rattle.std.proofs.Common.{drop}
 use Rattle.rules.specs.Bodies.{method_view}
 use Rattle.verify.proofs.numbered.TableEntries.{Built}
-use Rattle.verify.proofs.pass.exceptions.handlers_of.Given as goal
+use Rattle.verify.proofs.pass.exceptions.judge_entries.Given as goal
 
 abbrev pub invariant-loop-entry : goal.invariant-loop-entry
 invariant-loop-entry g l =
