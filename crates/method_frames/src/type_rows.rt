@@ -151,6 +151,9 @@ impl<'t, 'c, 'n, C: Classes> TypeRows<'t, 'c, 'n, C> {
         ensures ok { OnOk result (self.new ≡ record self.old { running = slice_set self.old.running place number }) }
         ensures err { OnErr result (self.new ≡ self.old) }
     {
+        if self.rows.get(place) == number {
+            return Ok(());
+        }
         self.lacking = None;
         self.holders.list(number, place)?;
         self.rows.set(place, number)

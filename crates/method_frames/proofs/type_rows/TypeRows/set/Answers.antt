@@ -1,4 +1,4 @@
-use Rattle.std.proofs.Common.{subst, sym}
+use Rattle.std.proofs.Common.{rules, subst, sym}
 use Rattle.type_numbers.specs.Numbers.{IsGiven}
 use Rattle.method_frames.proofs.Holding.{held_kept, put_held}
 use Rattle.method_frames.proofs.type_rows.TypeRows.set.Goals as goal
