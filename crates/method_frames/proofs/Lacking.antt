@@ -4,7 +4,9 @@ use Rattle.std.specs.Prelude.{IfSome}
 use Rattle.std.proofs.lemmas.Bool.{cases_lt}
 use Rattle.std.proofs.lemmas.List.{get_or_append_left, length-append}
 use Rattle.std.proofs.lemmas.Option.{slice_get_within}
-use Rattle.hierarchy.specs.Answer.{Outcome, yes, no, missing}
+use Rattle.hierarchy.specs.Answer.{Outcome, yes, no, missing, outcome_of}
+use Rattle.hierarchy.specs.declared.answer.Answer.{Answer}
+use Rattle.hierarchy.specs.declared.answer.Answer.TheVariants.{Yes, No, Missing}
 use Rattle.hierarchy.proofs.Names.{same_some}
 use Rattle.frames.specs.Assignable.{type_answer}
 use Rattle.frames.specs.FrameAssignable.{both, list_answer}
@@ -21,11 +23,13 @@ use Rattle.method_frames.specs.private.Known.{AreKnown}
 use Rattle.method_frames.proofs.Answering.{whole, at, long}
 use Rattle.method_frames.proofs.Knowing.{view_of}
 
-missing_not_yes : (name : List ℕ) → missing name ≢ yes
+pub missing_not_yes : (name : List ℕ) → missing name ≢ yes
 missing_not_yes name e = cc
 
-missing_not_no : (name : List ℕ) → missing name ≢ no
-missing_not_no name e = cc
+pub yes_alone : (answer : Answer) → (answer ≡ Yes → ⊥) → outcome_of answer ≢ yes
+yes_alone Yes h e = h refl
+yes_alone No h e = cc
+yes_alone (Missing name) h e = cc
 
 -- ---- two rows for which a class is missing
 
@@ -44,9 +48,6 @@ module _ (s : Numbering) (xs ys : List ℕ) (even : length ys ≡ length xs) (na
 
   first_here : answer_for s xs ys all.1.0 ≡ missing name
   first_here = read all.1.0 (missing name) first_inside all.1.1
-
-  pub unfit : IsUnfit s xs ys (length xs)
-  unfit = record { within = omega arith; place = all.1.0; early = first_inside; here = λ e. missing_not_yes name (sym first_here ∙ e) }
 
   pub lacks : (end : ℕ) → IsUnfit s xs ys end → Lacks s xs ys end name
   lacks end u = record {
@@ -154,9 +155,6 @@ module _ (s : Numbering) (rows : Rows) (x : NumberedRows) (is : view_of s rows �
   told =
       sym (whole s rows.running (declared_row rows row) (known.even row row_within))
       ∙ sym (subst (λ y. missing name ≡ list_answer (type_answer y.types.classes) (types_by y.types y.running) (types_by y.types (declared_in y row))) (sym is) e)
-
-  pub row_unfit : IsUnfit x.types x.running (declared_in x row) (length x.running)
-  row_unfit = subst (λ y. IsUnfit y.types y.running (declared_in y row) (length y.running)) is (unfit s rows.running (declared_row rows row) (known.even row row_within) name told)
 
   pub row_lacks : (end : ℕ) → IsUnfit x.types x.running (declared_in x row) end → Lacks s rows.running (declared_row rows row) end name
   row_lacks end u =

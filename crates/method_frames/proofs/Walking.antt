@@ -1,7 +1,5 @@
 -- A walk along the places of the running row that are not known to fit a declared one.
-use Rattle.std.proofs.Common.{◌≡◌, ◌≢◌, ◌⊎◌, ◌∙◌, ℕ, ◌+◌, ◌-◌, ◌<◌, ◌≤◌, List, [], Some, None, length, drop, slice_get, get_or, sym, ap, subst, inl, inr, arith}
-use Rattle.std.proofs.lemmas.Bool.{cases_lt}
-use Rattle.hierarchy.proofs.Names.{same_some}
+use Rattle.std.proofs.Common.{◌≡◌, ◌≢◌, ◌∙◌, ℕ, ◌+◌, ◌-◌, ◌<◌, ◌≤◌, List, [], Some, None, length, drop, slice_get, get_or, sym, ap, subst, arith}
 use Rattle.hierarchy.specs.Answer.{Outcome, yes, no}
 use Rattle.frames.specs.Assignable.{type_answer}
 use Rattle.frames.specs.FrameAssignable.{both, list_answer}
@@ -13,7 +11,7 @@ use Rattle.type_numbers.specs.Numbers.{Numbering}
 use Rattle.type_numbers.specs.Decoding.{type_by, types_by}
 use Rattle.method_frames.specs.TypeRows.{NumberedRows, declared_in}
 use Rattle.method_frames.specs.private.Known.{AreGiven, AreKnown, fits}
-use Rattle.method_frames.specs.private.Lacking.{row_answers, answer_for, IsUnfit}
+use Rattle.method_frames.specs.private.Lacking.{row_answers, IsUnfit}
 use Rattle.method_frames.proofs.Answering.{judgement, whole, long, at, fitting, all_fit}
 use Rattle.method_frames.proofs.Knowing.{view_of}
 
@@ -37,43 +35,6 @@ module _ (s : Numbering) (rows : Rows) (x : NumberedRows) (is : view_of s rows �
 
   long_rows : length rows.running ≡ length x.running
   long_rows = ap (λ y. length y.running) is
-
-  settled_fits : (place : ℕ) → place < length x.running → IsSettled rows row place → answer_for x.types x.running (declared_in x row) place ≡ yes
-  settled_fits place lt h = let same = long_rows in same_some (at x.types x.running (declared_in x row) even place lt) (settled_yes place (omega (arith, lt, same)) h)
-
-  -- the first place that does not fit is looked for
-  module _ (from : ℕ) (fit : (k : ℕ) → k < from → answer_for x.types x.running (declared_in x row) k ≡ yes) where
-    module _ (place : ℕ) (h : IsFirstUndecided rows row from (Some place)) where
-      found_inside : place < length x.running
-      found_inside = let lt = h.1 in let same = long_rows in omega (arith, lt, same)
-
-      pub found_within : place + 1 ≤ length x.running
-      found_within = let lt = found_inside in omega (arith, lt)
-
-      before_found : (k : ℕ) → k < place → answer_for x.types x.running (declared_in x row) k ≡ yes
-      before_found k lt = by (cases_lt k from)
-        where
-          by : (k < from) ⊎ (from ≤ k) → answer_for x.types x.running (declared_in x row) k ≡ yes
-          by (inl low) = fit k low
-          by (inr high) = let inside = found_inside in settled_fits k (omega (arith, lt, inside)) (h.3 k high lt)
-
-      pub fit_on : answer_for x.types x.running (declared_in x row) place ≡ yes → (k : ℕ) → k < place + 1 → answer_for x.types x.running (declared_in x row) k ≡ yes
-      fit_on e k lt = by (cases_lt k place)
-        where
-          by : (k < place) ⊎ (place ≤ k) → answer_for x.types x.running (declared_in x row) k ≡ yes
-          by (inl low) = before_found k low
-          by (inr high) = let here : place ≡ k = omega (arith, lt, high) in subst (λ j. answer_for x.types x.running (declared_in x row) j ≡ yes) here e
-
-      pub found_unfit : answer_for x.types x.running (declared_in x row) place ≢ yes → IsUnfit x.types x.running (declared_in x row) (place + 1)
-      found_unfit h = record { within = found_within; place = place; early = omega arith; here = h }
-
-    -- none is found, though there is one
-    pub none_found : IsFirstUndecided rows row from None → {P : Type 0} → IsUnfit x.types x.running (declared_in x row) (length x.running) → P
-    none_found h u = by (cases_lt u.place from)
-      where
-        by : {P : Type 0} → (u.place < from) ⊎ (from ≤ u.place) → P
-        by (inl low) = absurd (u.here (fit u.place low))
-        by (inr high) = let lt = u.early in let same = long_rows in absurd (u.here (settled_fits u.place lt (h u.place high (omega (arith, lt, same)))))
 
   module _ (so_far : Outcome) (from : ℕ) (rest : joined os ≡ both so_far (joined (drop from os))) where
     to_place : (place : ℕ) → IsFirstUndecided rows row from (Some place) → joined os ≡ both so_far (joined (drop place os))
@@ -100,6 +61,9 @@ module _ (s : Numbering) (rows : Rows) (x : NumberedRows) (is : view_of s rows �
 
       pub next_within : place + 1 ≤ length x.running
       next_within = let lt = inside in omega (arith, lt)
+
+      pub here_unfit : a ≢ yes → IsUnfit x.types x.running (declared_in x row) (place + 1)
+      here_unfit h = record { within = next_within; place = place; early = omega arith; here = λ k. h (e ∙ k) }
 
     pub at_end : from ≤ length x.running → IsFirstUndecided rows row from None → so_far ≡ whole_answer
     at_end few h =

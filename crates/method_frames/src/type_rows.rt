@@ -12,13 +12,12 @@ use std::alloc::{AllocError, Global};
 use std::marker::Model;
 use type_numbers::TypeNumbers;
 
-/// A declared row for which a class is missing, as long as the running row stays as it is.
+/// A declared row to which the running one, as it is, is not known to fit since a class is missing.
 #[derive(Clone, Copy)]
 struct Lacking<'n> {
     row: Row,
     /// So many first places give that answer already.
     end: usize,
-    /// The class that is missing.
     name: &'n [u8],
 }
 
@@ -27,14 +26,17 @@ struct Lacking<'n> {
 ///
 /// Rows share what they have in common ([`Arena`]). A running row that was seen to fit a declared one is compared with
 /// it again only where it changed, so that a comparison takes time for what changed and not for the length of a row.
-/// Where a class is missing for a declared row, other rows are compared only from the place on at which they differ
-/// from that one. The places that came to hold an object which is not initialized are listed, so that it is replaced in time for these
+/// Where a class is missing for a declared row, others are compared only from the place on at which they differ from
+/// that one.
+///
+/// The places that came to hold an object which is not initialized are listed, so that it is replaced in time for these
 /// places.
 #[derive(Drop)]
 pub struct TypeRows<'t, 'c, 'n, C: Classes> {
     types: &'t TypeNumbers<'c, 'n, C>,
     rows: Arena,
     holders: Holders,
+    /// The last declared row that lacked a class since the running one changed.
     lacking: Option<Lacking<'n>>,
 }
 
@@ -76,12 +78,12 @@ fn replace_listed(
 }
 
 impl<'t, 'c, 'n, C: Classes> TypeRows<'t, 'c, 'n, C> {
-    ghost use Rattle.std.specs.Prelude.{◌≡◌, ◌<◌, ◌^◌, ◌∷◌, ◌++◌, ◌⊎◌, ◌≤◌, ℕ, true, false, [], length, map, drop, replicate, slice_index, slice_set, IfOk, OnOk, OnErr};
+    ghost use Rattle.std.specs.Prelude.{◌≡◌, ◌≢◌, ◌<◌, ◌^◌, ◌∷◌, ◌++◌, ◌⊎◌, ◌≤◌, ℕ, true, false, [], length, map, drop, replicate, slice_index, slice_set, IfOk, OnOk, OnErr};
     ghost use Rattle.frames.specs.VerificationType.{VerificationType};
     ghost use Rattle.frames.specs.Objects.{replaced as type_replaced};
     ghost use Rattle.method_frames.specs.ObjectLaws.{IsObjectType};
     ghost use Rattle.method_frames.specs.Objects.{is_object, replaced};
-    ghost use Rattle.hierarchy.specs.Answer.{outcome_of};
+    ghost use Rattle.hierarchy.specs.Answer.{outcome_of, yes};
     ghost use Rattle.frames.specs.Assignable.{type_answer};
     ghost use Rattle.frames.specs.FrameAssignable.{list_answer};
     ghost use Rattle.type_numbers.specs.Numbers.{IsGiven, IsNumber};
@@ -263,70 +265,49 @@ impl<'t, 'c, 'n, C: Classes> TypeRows<'t, 'c, 'n, C> {
         }
     }
 
-    /// From which place on a declared row is to be compared, and the answer for the places in front of it. They are
-    /// those that it has in common with the row that lacks a class, where these give the answer of that one.
-    fn start(&self, row: Row) -> (usize, Answer<'n>)
+    /// From which place on a declared row is to be compared, the answer for the places in front of it, and, if that is a
+    /// missing class, how many first places give it. Places are in front of it that the row has in common with the one
+    /// that lacks a class, where they give the answer of that one.
+    fn start(&self, row: Row) -> (usize, Answer<'n>, usize)
         requires row { row < length self.now.declared }
         ensures within { result.0 ≤ length self.now.running }
         ensures so_far { let os = row_answers self.now.types self.now.running (declared_in self.now row) in
             joined os ≡ both (outcome_of result.1) (joined (drop result.0 os)) }
+        ensures end { outcome_of result.1 ≢ yes
+            → IsUnfit self.now.types self.now.running (declared_in self.now row) result.2 }
     {
         if let Some(lacking) = &self.lacking {
             let count = self.common_places(lacking.row, row);
             if lacking.end <= count {
-                return (count, Answer::Missing(lacking.name));
+                return (count, Answer::Missing(lacking.name), lacking.end);
             }
         }
-        (0, Answer::Yes)
+        (0, Answer::Yes, 0)
     }
 
-    /// The answer for the places that are not known to fit, the first ones first.
-    fn answer_anew(&self, row: Row) -> Answer<'n>
+    /// The answer for the places that are not known to fit, the first ones first, and, if that is not yes, how many first
+    /// places do not all fit.
+    fn answer_anew(&self, row: Row) -> (Answer<'n>, usize)
         requires row { row < length self.now.declared }
-        ensures { let s = self.now.types in outcome_of result ≡ list_answer (type_answer s.classes)
+        ensures told { let s = self.now.types in outcome_of result.0 ≡ list_answer (type_answer s.classes)
             (types_by s self.now.running) (types_by s (declared_in self.now row)) }
+        ensures end { outcome_of result.0 ≢ yes
+            → IsUnfit self.now.types self.now.running (declared_in self.now row) result.1 }
     {
-        let (mut from, mut so_far) = self.start(row);
+        let (mut from, mut so_far, mut end) = self.start(row);
         while let Some(place) = self.rows.first_undecided(row, from) {
             let answer = self.answer_at(row, place);
+            from = place + 1;
             if let Answer::No = answer {
-                return Answer::No;
+                return (Answer::No, from);
             }
-            so_far = both(so_far, answer);
-            from = place + 1;
-        }
-        so_far
-    }
-
-    /// One behind the first place at which a declared row does not fit.
-    fn first_end(&self, row: Row) -> usize
-        requires row { row < length self.now.declared }
-        requires unfit { IsUnfit self.now.types self.now.running (declared_in self.now row) (length self.now.running) }
-        ensures { IsUnfit self.now.types self.now.running (declared_in self.now row) result }
-    {
-        let mut from = 0;
-        while let Some(place) = self.rows.first_undecided(row, from) {
-            from = place + 1;
-            match self.answer_at(row, place) {
-                Answer::Yes => {}
-                _ => return from,
+            let with = both(so_far, answer);
+            if let Answer::Yes = so_far {
+                end = from;
             }
+            so_far = with;
         }
-        from
-    }
-
-    /// How many first places of a declared row give its answer, where a class is missing for it.
-    fn lacking_end(&self, row: Row) -> usize
-        requires row { row < length self.now.declared }
-        requires unfit { IsUnfit self.now.types self.now.running (declared_in self.now row) (length self.now.running) }
-        ensures { IsUnfit self.now.types self.now.running (declared_in self.now row) result }
-    {
-        if let Some(lacking) = &self.lacking {
-            if lacking.end <= self.common_places(lacking.row, row) {
-                return lacking.end;
-            }
-        }
-        self.first_end(row)
+        (so_far, end)
     }
 
     /// Whether the types of the running row may stand where those of a declared one are wanted (JVMS 4.10.1.4): no
@@ -337,14 +318,11 @@ impl<'t, 'c, 'n, C: Classes> TypeRows<'t, 'c, 'n, C> {
         ensures told { let s = self.old.types in outcome_of result ≡ list_answer (type_answer s.classes)
             (types_by s self.old.running) (types_by s (declared_in self.old row)) }
     {
-        let answer = self.answer_anew(row);
+        let (answer, end) = self.answer_anew(row);
         match answer {
             Answer::Yes => self.rows.note_fit(row),
             Answer::No => {}
-            Answer::Missing(name) => {
-                let end = self.lacking_end(row);
-                self.lacking = Some(Lacking { row, end, name });
-            }
+            Answer::Missing(name) => self.lacking = Some(Lacking { row, end, name }),
         }
         answer
     }

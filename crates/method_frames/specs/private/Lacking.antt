@@ -26,7 +26,7 @@ pub record IsUnfit (s : Numbering) (running wanted : List ℕ) (end : ℕ) : Typ
   pub early : place < end
   pub here : answer_for s running wanted place ≢ yes
 
--- the answer for two rows is a missing class, and so many first places give it already
+-- a class is missing for two rows, and so many first places tell it already
 pub record Lacks (s : Numbering) (running wanted : List ℕ) (end : ℕ) (name : List ℕ) : Type 0 where
   pub within : end ≤ length running
   pub place : ℕ
@@ -35,7 +35,7 @@ pub record Lacks (s : Numbering) (running wanted : List ℕ) (end : ℕ) (name :
   pub before : (k : ℕ) → k < place → answer_for s running wanted k ≡ yes
   pub free : (k : ℕ) → k < length running → answer_for s running wanted k ≢ no
 
--- a class is missing for this declared row
+-- a class is missing for a declared row
 pub record IsLacking (s : Numbering) (rows : Rows) (x : Lacking) : Type 0 where
   pub row : x.row < length rows.declared
   pub lacks : Lacks s rows.running (declared_row rows x.row) x.end x.name.now
