@@ -12,12 +12,13 @@ use std::alloc::{AllocError, Global};
 use std::marker::Model;
 use type_numbers::TypeNumbers;
 
-/// A declared row to which the running one, as it is, is not known to fit since a class is missing.
+/// A declared row for which a class is missing while the running one stays as it is.
 #[derive(Clone, Copy)]
 struct Lacking<'n> {
     row: Row,
     /// So many first places give that answer already.
     end: usize,
+    /// The first class that is missing.
     name: &'n [u8],
 }
 
@@ -265,9 +266,9 @@ impl<'t, 'c, 'n, C: Classes> TypeRows<'t, 'c, 'n, C> {
         }
     }
 
-    /// From which place on a declared row is to be compared, the answer for the places in front of it, and, if that is a
-    /// missing class, how many first places give it. Places are in front of it that the row has in common with the one
-    /// that lacks a class, where they give the answer of that one.
+    /// From which place on a declared row is to be compared; the answer for the places in front of it; and, if that is a
+    /// missing class, how many first places give it. In front of it are the places that the row has in common with the
+    /// one for which a class is missing, if they give the answer of that one, and else none.
     fn start(&self, row: Row) -> (usize, Answer<'n>, usize)
         requires row { row < length self.now.declared }
         ensures within { result.0 ≤ length self.now.running }
@@ -285,7 +286,7 @@ impl<'t, 'c, 'n, C: Classes> TypeRows<'t, 'c, 'n, C> {
         (0, Answer::Yes, 0)
     }
 
-    /// The answer for the places that are not known to fit, the first ones first, and, if that is not yes, how many first
+    /// The answer for the places that are not known to fit, the first ones first; and, if it is not yes, how many first
     /// places do not all fit.
     fn answer_anew(&self, row: Row) -> (Answer<'n>, usize)
         requires row { row < length self.now.declared }
