@@ -8,7 +8,6 @@ use Rattle.hierarchy.specs.Answer.{Outcome, yes, no, missing}
 use Rattle.frames.specs.VerificationType.{VerificationType}
 use Rattle.frames.specs.Assignable.{type_answer}
 use Rattle.frames.specs.FrameAssignable.{list_answer}
-use Rattle.frames.specs.Meaning.{answers}
 use Rattle.frames.specs.PackedFrames.{joined}
 use Rattle.frames.proofs.Frames.{list_joined, RowAnswer, row_holds}
 use Rattle.frames.proofs.PlaceAnswers.{answer_at, answers_length}
@@ -17,6 +16,7 @@ use Rattle.type_numbers.specs.Numbers.{Numbering}
 use Rattle.type_numbers.specs.Decoding.{type_by, types_by}
 use Rattle.blocks.specs.Judgements.{IsJudgement}
 use Rattle.method_frames.specs.private.Known.{is_yes, fits}
+use Rattle.method_frames.specs.private.Lacking.{row_answers}
 
 yes_of : (r : Outcome) → is_yes r ≡ true → r ≡ yes
 yes_of yes e = refl
@@ -28,10 +28,6 @@ judgement s = record {
   itself = λ a. ap is_yes (type_itself s.classes (type_by s a));
   top = λ a. refl;
 }
-
--- the answers for two rows, place by place
-abbrev pub row_answers : Numbering → List ℕ → List ℕ → List Outcome
-row_answers s xs ys = answers (type_answer s.classes) (types_by s xs) (types_by s ys)
 
 module _ (s : Numbering) (xs ys : List ℕ) (even : length ys ≡ length xs) where
   abbrev answer : VerificationType → VerificationType → Outcome

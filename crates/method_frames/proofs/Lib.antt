@@ -7,6 +7,7 @@ pub mod Among
 pub mod ObjectTypes
 pub mod Answering
 pub mod Walking
+pub mod Lacking
 pub mod Counting
 pub mod StackGiven
 pub mod StackWriting

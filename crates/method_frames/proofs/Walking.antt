@@ -1,5 +1,5 @@
 -- A walk along the places of the running row that are not known to fit a declared one.
-use Rattle.std.proofs.Common.{◌≡◌, ◌∙◌, ℕ, ◌+◌, ◌-◌, ◌<◌, ◌≤◌, List, [], Some, None, length, drop, slice_get, get_or, sym, ap, subst, arith}
+use Rattle.std.proofs.Common.{◌≡◌, ◌≢◌, ◌∙◌, ℕ, ◌+◌, ◌-◌, ◌<◌, ◌≤◌, List, [], Some, None, length, drop, slice_get, get_or, sym, ap, subst, arith}
 use Rattle.hierarchy.specs.Answer.{Outcome, yes, no}
 use Rattle.frames.specs.Assignable.{type_answer}
 use Rattle.frames.specs.FrameAssignable.{both, list_answer}
@@ -11,7 +11,8 @@ use Rattle.type_numbers.specs.Numbers.{Numbering}
 use Rattle.type_numbers.specs.Decoding.{type_by, types_by}
 use Rattle.method_frames.specs.TypeRows.{NumberedRows, declared_in}
 use Rattle.method_frames.specs.private.Known.{AreGiven, AreKnown, fits}
-use Rattle.method_frames.proofs.Answering.{row_answers, judgement, whole, long, at, fitting, all_fit}
+use Rattle.method_frames.specs.private.Lacking.{row_answers, IsUnfit}
+use Rattle.method_frames.proofs.Answering.{judgement, whole, long, at, fitting, all_fit}
 use Rattle.method_frames.proofs.Knowing.{view_of}
 
 module _ (s : Numbering) (rows : Rows) (x : NumberedRows) (is : view_of s rows ≡ x) (known : AreKnown s rows) (row : ℕ) (r : row < length x.declared) where
@@ -60,6 +61,9 @@ module _ (s : Numbering) (rows : Rows) (x : NumberedRows) (is : view_of s rows �
 
       pub next_within : place + 1 ≤ length x.running
       next_within = let lt = inside in omega (arith, lt)
+
+      pub here_unfit : a ≢ yes → IsUnfit x.types x.running (declared_in x row) (place + 1)
+      here_unfit h = record { within = next_within; place = place; early = omega arith; here = λ k. h (e ∙ k) }
 
     pub at_end : from ≤ length x.running → IsFirstUndecided rows row from None → so_far ≡ whole_answer
     at_end few h =

@@ -2,6 +2,7 @@
 pub mod Known
 pub mod Counted
 pub mod Holders
+pub mod Lacking
 pub mod Stacks
 pub mod Frames
 pub mod Moves

@@ -12,11 +12,24 @@ use std::alloc::{AllocError, Global};
 use std::marker::Model;
 use type_numbers::TypeNumbers;
 
+/// A declared row for which a class is missing while the running one stays as it is.
+#[derive(Clone, Copy)]
+struct Lacking<'n> {
+    row: Row,
+    /// So many first places give that answer already.
+    end: usize,
+    /// The first class that is missing.
+    name: &'n [u8],
+}
+
 /// Rows of types by their numbers, such as the local variables of the frames of one method (JVMS 4.10.1.2): the row of
 /// the running frame, those of the declared frames, and one that is kept to tell what changed since.
 ///
 /// Rows share what they have in common ([`Arena`]). A running row that was seen to fit a declared one is compared with
 /// it again only where it changed, so that a comparison takes time for what changed and not for the length of a row.
+/// Where a class is missing for a declared row, others are compared only from the place on at which they differ from
+/// that one.
+///
 /// The places that came to hold an object which is not initialized are listed, so that it is replaced in time for these
 /// places.
 #[derive(Drop)]
@@ -24,11 +37,13 @@ pub struct TypeRows<'t, 'c, 'n, C: Classes> {
     types: &'t TypeNumbers<'c, 'n, C>,
     rows: Arena,
     holders: Holders,
+    /// The last declared row that lacked a class since the running one changed.
+    lacking: Option<Lacking<'n>>,
 }
 
 impl<'t, 'c, 'n, C: Classes> Model for TypeRows<'t, 'c, 'n, C> {
     ghost use Rattle.method_frames.specs.TypeRows.{NumberedRows};
-    ghost use Rattle.method_frames.specs.private.Holders.{AreHeld};
+    ghost use Rattle.method_frames.specs.private.Lacking.{AreKept};
 
     ghost Value = { NumberedRows };
 
@@ -39,7 +54,7 @@ impl<'t, 'c, 'n, C: Classes> Model for TypeRows<'t, 'c, 'n, C> {
       kept = x.rows.kept;
     } };
 
-    ghost invariant = { λ x. AreHeld (x.types.now) x.rows x.holders };
+    ghost invariant = { λ x. AreKept (x.types.now) x.rows x.holders x.lacking };
 }
 
 /// Puts a number in place of an object's, at the places of the running row that came to hold it.
@@ -64,18 +79,21 @@ fn replace_listed(
 }
 
 impl<'t, 'c, 'n, C: Classes> TypeRows<'t, 'c, 'n, C> {
-    ghost use Rattle.std.specs.Prelude.{◌≡◌, ◌<◌, ◌^◌, ◌∷◌, ◌++◌, ◌⊎◌, ℕ, true, false, [], length, map, replicate, slice_index, slice_set, IfOk, OnOk, OnErr};
+    ghost use Rattle.std.specs.Prelude.{◌≡◌, ◌≢◌, ◌<◌, ◌^◌, ◌∷◌, ◌++◌, ◌⊎◌, ◌≤◌, ℕ, true, false, [], length, map, drop, replicate, slice_index, slice_set, IfOk, OnOk, OnErr};
     ghost use Rattle.frames.specs.VerificationType.{VerificationType};
     ghost use Rattle.frames.specs.Objects.{replaced as type_replaced};
     ghost use Rattle.method_frames.specs.ObjectLaws.{IsObjectType};
     ghost use Rattle.method_frames.specs.Objects.{is_object, replaced};
-    ghost use Rattle.hierarchy.specs.Answer.{outcome_of};
+    ghost use Rattle.hierarchy.specs.Answer.{outcome_of, yes};
     ghost use Rattle.frames.specs.Assignable.{type_answer};
     ghost use Rattle.frames.specs.FrameAssignable.{list_answer};
     ghost use Rattle.type_numbers.specs.Numbers.{IsGiven, IsNumber};
     ghost use Rattle.type_numbers.specs.Decoding.{type_by, types_by};
     ghost use Rattle.method_frames.specs.TypeRows.{declared_in};
     ghost use Rattle.blocks.specs.Rows.{IsFirstUnequal};
+    ghost use Rattle.frames.specs.FrameAssignable.{both};
+    ghost use Rattle.frames.specs.PackedFrames.{joined};
+    ghost use Rattle.method_frames.specs.private.Lacking.{row_answers, IsUnfit};
 
     /// Rows with so many places; the running one holds Top throughout.
     pub fn new(
@@ -94,6 +112,7 @@ impl<'t, 'c, 'n, C: Classes> TypeRows<'t, 'c, 'n, C> {
             types,
             rows: Arena::new(alloc, count)?,
             holders: Holders::new(alloc),
+            lacking: None,
         })
     }
 
@@ -106,6 +125,7 @@ impl<'t, 'c, 'n, C: Classes> TypeRows<'t, 'c, 'n, C> {
           kept = replicate count 0;
         } }
     {
+        self.lacking = None;
         self.rows.restart(count);
         self.holders.clear();
     }
@@ -134,6 +154,10 @@ impl<'t, 'c, 'n, C: Classes> TypeRows<'t, 'c, 'n, C> {
         ensures ok { OnOk result (self.new ≡ record self.old { running = slice_set self.old.running place number }) }
         ensures err { OnErr result (self.new ≡ self.old) }
     {
+        if self.rows.get(place) == number {
+            return Ok(());
+        }
+        self.lacking = None;
         self.holders.list(number, place)?;
         self.rows.set(place, number)
     }
@@ -153,6 +177,7 @@ impl<'t, 'c, 'n, C: Classes> TypeRows<'t, 'c, 'n, C> {
             → IsNumber s object o → IsNumber s by t → IsObjectType o
             → types_by s self.new.running ≡ map (type_replaced o t) (types_by s self.old.running)) }
     {
+        self.lacking = None;
         replace_listed(object, by, &self.holders, &mut self.rows)
     }
 
@@ -184,6 +209,7 @@ impl<'t, 'c, 'n, C: Classes> TypeRows<'t, 'c, 'n, C> {
         requires { row < length self.old.declared }
         ensures { self.new ≡ record self.old { running = declared_in self.old row } }
     {
+        self.lacking = None;
         self.rows.take(row)
     }
 
@@ -226,23 +252,63 @@ impl<'t, 'c, 'n, C: Classes> TypeRows<'t, 'c, 'n, C> {
         self.types.assignable(from, to)
     }
 
-    /// The answer for the places that are not known to fit, the first ones first.
-    fn answer_anew(&self, row: Row) -> Answer<'n>
+    /// How many first places two declared rows have in common.
+    fn common_places(&self, row: Row, other: Row) -> usize
         requires row { row < length self.now.declared }
-        ensures { let s = self.now.types in outcome_of result ≡ list_answer (type_answer s.classes)
-            (types_by s self.now.running) (types_by s (declared_in self.now row)) }
+        requires other { other < length self.now.declared }
+        ensures within { result ≤ length self.now.running }
+        ensures same { (place : ℕ) → place < result
+            → slice_index (declared_in self.now row) place ≡ slice_index (declared_in self.now other) place }
     {
-        let mut so_far = Answer::Yes;
-        let mut from = 0;
+        match self.rows.first_unequal(row, other) {
+            Some(place) => place,
+            None => self.rows.slots(),
+        }
+    }
+
+    /// From which place on a declared row is to be compared; the answer for the places in front of it; and, if that is a
+    /// missing class, how many first places give it. In front of it are the places that the row has in common with the
+    /// one for which a class is missing, if they give the answer of that one, and else none.
+    fn start(&self, row: Row) -> (usize, Answer<'n>, usize)
+        requires row { row < length self.now.declared }
+        ensures within { result.0 ≤ length self.now.running }
+        ensures so_far { let os = row_answers self.now.types self.now.running (declared_in self.now row) in
+            joined os ≡ both (outcome_of result.1) (joined (drop result.0 os)) }
+        ensures end { outcome_of result.1 ≢ yes
+            → IsUnfit self.now.types self.now.running (declared_in self.now row) result.2 }
+    {
+        if let Some(lacking) = &self.lacking {
+            let count = self.common_places(lacking.row, row);
+            if lacking.end <= count {
+                return (count, Answer::Missing(lacking.name), lacking.end);
+            }
+        }
+        (0, Answer::Yes, 0)
+    }
+
+    /// The answer for the places that are not known to fit, the first ones first; and, if it is not yes, how many first
+    /// places do not all fit.
+    fn answer_anew(&self, row: Row) -> (Answer<'n>, usize)
+        requires row { row < length self.now.declared }
+        ensures told { let s = self.now.types in outcome_of result.0 ≡ list_answer (type_answer s.classes)
+            (types_by s self.now.running) (types_by s (declared_in self.now row)) }
+        ensures end { outcome_of result.0 ≢ yes
+            → IsUnfit self.now.types self.now.running (declared_in self.now row) result.1 }
+    {
+        let (mut from, mut so_far, mut end) = self.start(row);
         while let Some(place) = self.rows.first_undecided(row, from) {
             let answer = self.answer_at(row, place);
-            if let Answer::No = answer {
-                return Answer::No;
-            }
-            so_far = both(so_far, answer);
             from = place + 1;
+            if let Answer::No = answer {
+                return (Answer::No, from);
+            }
+            let with = both(so_far, answer);
+            if let Answer::Yes = so_far {
+                end = from;
+            }
+            so_far = with;
         }
-        so_far
+        (so_far, end)
     }
 
     /// Whether the types of the running row may stand where those of a declared one are wanted (JVMS 4.10.1.4): no
@@ -253,9 +319,11 @@ impl<'t, 'c, 'n, C: Classes> TypeRows<'t, 'c, 'n, C> {
         ensures told { let s = self.old.types in outcome_of result ≡ list_answer (type_answer s.classes)
             (types_by s self.old.running) (types_by s (declared_in self.old row)) }
     {
-        let answer = self.answer_anew(row);
-        if let Answer::Yes = answer {
-            self.rows.note_fit(row);
+        let (answer, end) = self.answer_anew(row);
+        match answer {
+            Answer::Yes => self.rows.note_fit(row),
+            Answer::No => {}
+            Answer::Missing(name) => self.lacking = Some(Lacking { row, end, name }),
         }
         answer
     }

@@ -6,13 +6,31 @@ use Rattle.type_numbers.specs.Decoding.{types_by}
 use Rattle.method_frames.specs.TypeRows.{declared_in}
 use Rattle.method_frames.proofs.Holding.{noted_held}
 use Rattle.method_frames.proofs.Walking.{said_known}
+use Rattle.method_frames.proofs.Lacking.{missing_not_yes, row_within, row_lacks, noted_lacking}
 use Rattle.method_frames.proofs.type_rows.TypeRows.answer.Goals as goal
+
+pub invariant_of-self-in-Missing : goal.invariant_of-self-in-Missing
+invariant_of-self-in-Missing g c =
+    let x = c.self.inside in
+    let told_name = sym (ap outcome_of c.in-Missing.is) in
+    let told = told_name ∙ c.answer_anew-end.ensures.told in
+    record {
+      held = c.self.invariant.held;
+      lacking = record {
+        row = row_within x.types.now x.rows c.args.self.now c.self.view_is c.self.invariant.held.known c.args.row c.requires.row c.in-Missing.name.now told;
+        lacks = row_lacks x.types.now x.rows c.args.self.now c.self.view_is c.self.invariant.held.known c.args.row c.requires.row c.in-Missing.name.now told c.answer_anew-end.result.1
+            (c.answer_anew-end.ensures.end (λ e. missing_not_yes c.in-Missing.name.now (told_name ∙ e)));
+      };
+    }
 
 pub invariant_of-self : goal.invariant_of-self
 invariant_of-self g c =
     let x = c.self.inside in
     let row = subst (λ y. c.args.row < length y.declared) (sym c.self.view_is) c.requires.row in
     let all = subst (λ y. list_answer (type_answer y.types.classes) (types_by y.types y.running) (types_by y.types (declared_in y c.args.row)) ≡ yes)
-    (sym c.self.view_is) (sym c.answer_anew-answer.ensures ∙ ap outcome_of c.in-Yes.is) in
-    noted_held x.types.now x.rows c.note_fit.new.self x.holders (said_known x.types.now x.rows c.note_fit.new.self c.args.row row c.self.invariant.known c.note_fit.ensures all)
-    c.note_fit.ensures.running c.note_fit.ensures.declared c.self.invariant
+    (sym c.self.view_is) (sym c.answer_anew-end.ensures.told ∙ ap outcome_of c.in-Yes.is) in
+    record {
+      held = noted_held x.types.now x.rows c.note_fit.new.self x.holders (said_known x.types.now x.rows c.note_fit.new.self c.args.row row c.self.invariant.held.known c.note_fit.ensures all)
+          c.note_fit.ensures.running c.note_fit.ensures.declared c.self.invariant.held;
+      lacking = noted_lacking x.types.now x.rows c.note_fit.new.self x.lacking c.note_fit.ensures.running c.note_fit.ensures.declared c.self.invariant.lacking;
+    }

@@ -3,15 +3,38 @@ use Rattle.hierarchy.specs.Answer.{outcome_of}
 use Rattle.frames.specs.FrameAssignable.{both}
 use Rattle.frames.specs.PackedFrames.{joined}
 use Rattle.method_frames.specs.TypeRows.{declared_in}
-use Rattle.method_frames.proofs.Answering.{row_answers}
-use Rattle.method_frames.proofs.Walking.{at_no, past, next_within, at_end}
+use Rattle.method_frames.specs.private.Lacking.{row_answers}
+use Rattle.method_frames.proofs.Walking.{at_no, past, next_within, here_unfit, at_end}
+use Rattle.method_frames.proofs.Lacking.{yes_alone}
 use Rattle.method_frames.proofs.type_rows.TypeRows.answer_anew.Goals as goal
 
-pub returns-in-No : goal.returns-in-No
-returns-in-No g c =
+pub returns-in-No-clause-told : goal.returns-in-No-clause-told
+returns-in-No-clause-told g c =
     let x = c.self.inside in
-    at_no x.types.now x.rows c.args.self.now c.self.view_is c.self.invariant.known c.args.row c.requires.row (outcome_of c.loop-place.so_far) c.loop-place.from c.loop-place.invariant.rest
+    at_no x.types.now x.rows c.args.self.now c.self.view_is c.self.invariant.held.known c.args.row c.requires.row (outcome_of c.loop-place.so_far) c.loop-place.from c.loop-place.invariant.rest
     c.in-Some.place c.in-Some.ensures.first (outcome_of c.answer_at-answer.result) c.answer_at-answer.ensures (ap outcome_of c.in-No.is)
+
+pub returns-in-No-clause-end : goal.returns-in-No-clause-end
+returns-in-No-clause-end g c h =
+    let x = c.self.inside in
+    here_unfit x.types.now x.rows c.args.self.now c.self.view_is c.self.invariant.held.known c.args.row c.requires.row (outcome_of c.loop-place.so_far) c.loop-place.from c.loop-place.invariant.rest
+    c.in-Some.place c.in-Some.ensures.first (outcome_of c.answer_at-answer.result) c.answer_at-answer.ensures (λ e. h (sym (ap outcome_of c.in-No.is) ∙ e))
+
+pub loop-place-preserved-in-Yes : goal.loop-place-preserved-in-Yes
+loop-place-preserved-in-Yes g c =
+    let x = c.self.inside in
+    let now = c.args.self.now in
+    let os = row_answers now.types now.running (declared_in now c.args.row) in
+    record {
+      within = next_within x.types.now x.rows c.args.self.now c.self.view_is c.self.invariant.held.known c.args.row c.requires.row (outcome_of c.loop-place.so_far) c.loop-place.from c.loop-place.invariant.rest
+          c.in-Some.place c.in-Some.ensures.first (outcome_of c.answer_at-answer.result) c.answer_at-answer.ensures;
+      rest = past x.types.now x.rows c.args.self.now c.self.view_is c.self.invariant.held.known c.args.row c.requires.row (outcome_of c.loop-place.so_far) c.loop-place.from c.loop-place.invariant.rest
+          c.in-Some.place c.in-Some.ensures.first (outcome_of c.answer_at-answer.result) c.answer_at-answer.ensures
+          ∙ ap (λ r. both r (joined (drop (c.in-Some.place + 1) os))) (sym c.both-with.ensures);
+      unfit = λ h. here_unfit x.types.now x.rows c.args.self.now c.self.view_is c.self.invariant.held.known c.args.row c.requires.row (outcome_of c.loop-place.so_far) c.loop-place.from c.loop-place.invariant.rest
+          c.in-Some.place c.in-Some.ensures.first (outcome_of c.answer_at-answer.result) c.answer_at-answer.ensures
+          (λ e. h (c.both-with.ensures ∙ ap (λ r. both (outcome_of r) (outcome_of c.answer_at-answer.result)) c.in-Yes.is ∙ e));
+    }
 
 pub loop-place-preserved : goal.loop-place-preserved
 loop-place-preserved g c =
@@ -19,15 +42,19 @@ loop-place-preserved g c =
     let now = c.args.self.now in
     let os = row_answers now.types now.running (declared_in now c.args.row) in
     record {
-      within = next_within x.types.now x.rows now c.self.view_is c.self.invariant.known c.args.row c.requires.row (outcome_of c.loop-place.so_far) c.loop-place.from c.loop-place.invariant.rest
+      within = next_within x.types.now x.rows c.args.self.now c.self.view_is c.self.invariant.held.known c.args.row c.requires.row (outcome_of c.loop-place.so_far) c.loop-place.from c.loop-place.invariant.rest
           c.in-Some.place c.in-Some.ensures.first (outcome_of c.answer_at-answer.result) c.answer_at-answer.ensures;
-      rest = past x.types.now x.rows now c.self.view_is c.self.invariant.known c.args.row c.requires.row (outcome_of c.loop-place.so_far) c.loop-place.from c.loop-place.invariant.rest
+      rest = past x.types.now x.rows c.args.self.now c.self.view_is c.self.invariant.held.known c.args.row c.requires.row (outcome_of c.loop-place.so_far) c.loop-place.from c.loop-place.invariant.rest
           c.in-Some.place c.in-Some.ensures.first (outcome_of c.answer_at-answer.result) c.answer_at-answer.ensures
-          ∙ ap (λ r. both r (joined (drop (c.in-Some.place + 1) os))) (sym c.both-so_far.ensures);
+          ∙ ap (λ r. both r (joined (drop (c.in-Some.place + 1) os))) (sym c.both-with.ensures);
+      unfit = λ h. c.loop-place.invariant.unfit (yes_alone c.loop-place.so_far c.in_default-so_far.not-Yes);
     }
 
-pub returns : goal.returns
-returns g c =
+pub returns-clause-told : goal.returns-clause-told
+returns-clause-told g c =
     let x = c.self.inside in
-    at_end x.types.now x.rows c.args.self.now c.self.view_is c.self.invariant.known c.args.row c.requires.row (outcome_of c.loop-place.so_far) c.loop-place.from c.loop-place.invariant.rest
+    at_end x.types.now x.rows c.args.self.now c.self.view_is c.self.invariant.held.known c.args.row c.requires.row (outcome_of c.loop-place.so_far) c.loop-place.from c.loop-place.invariant.rest
     c.loop-place.invariant.within c.in_default.ensures.first
+
+pub returns-clause-end : goal.returns-clause-end
+returns-clause-end g c h = c.loop-place.invariant.unfit h

@@ -10,19 +10,19 @@ use Rattle.method_frames.proofs.type_rows.TypeRows.answer_at.Goals as goal
 pub assignable-requires-clause-from : goal.assignable-requires-clause-from
 assignable-requires-clause-from g c =
     let x = c.self.inside in
-    running_given x.types.now x.rows c.args.self.now c.self.view_is c.self.invariant.known c.args.place c.get-from.result c.requires.place c.get-from.ensures
+    running_given x.types.now x.rows c.args.self.now c.self.view_is c.self.invariant.held.known c.args.place c.get-from.result c.requires.place c.get-from.ensures
 
 pub assignable-requires-clause-to : goal.assignable-requires-clause-to
 assignable-requires-clause-to g c =
     let x = c.self.inside in
-    declared_given x.types.now x.rows c.args.self.now c.self.view_is c.self.invariant.known c.args.row c.args.place c.get_declared-to.result c.requires.row c.requires.place c.get_declared-to.ensures
+    declared_given x.types.now x.rows c.args.self.now c.self.view_is c.self.invariant.held.known c.args.row c.args.place c.get_declared-to.result c.requires.row c.requires.place c.get_declared-to.ensures
 
 pub returns : goal.returns
 returns g c =
     let x = c.self.inside in
     let s = x.types.now in
-    let from = running_given s x.rows c.args.self.now c.self.view_is c.self.invariant.known c.args.place c.get-from.result c.requires.place c.get-from.ensures in
-    let to = declared_given s x.rows c.args.self.now c.self.view_is c.self.invariant.known c.args.row c.args.place c.get_declared-to.result c.requires.row c.requires.place c.get_declared-to.ensures in
+    let from = running_given s x.rows c.args.self.now c.self.view_is c.self.invariant.held.known c.args.place c.get-from.result c.requires.place c.get-from.ensures in
+    let to = declared_given s x.rows c.args.self.now c.self.view_is c.self.invariant.held.known c.args.row c.args.place c.get_declared-to.result c.requires.row c.requires.place c.get_declared-to.ensures in
     subst (λ y. outcome_of c.assignable.result ≡ type_answer y.types.classes (type_by y.types (get_or y.running c.args.place 0)) (type_by y.types (get_or (declared_in y c.args.row) c.args.place 0)))
     c.self.view_is
     (c.assignable.ensures from.0 to.0 from.1 to.1

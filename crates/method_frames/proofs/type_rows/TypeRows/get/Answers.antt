@@ -7,4 +7,4 @@ pub returns-clause-given : goal.returns-clause-given
 returns-clause-given g c =
     let x = c.self.inside in
     subst (λ y. IsGiven y.types c.get.result) c.self.view_is
-    (running_given x.types.now x.rows c.args.self.now c.self.view_is c.self.invariant.known c.args.place c.get.result c.requires c.get.ensures)
+    (running_given x.types.now x.rows c.args.self.now c.self.view_is c.self.invariant.held.known c.args.place c.get.result c.requires c.get.ensures)

@@ -7,4 +7,4 @@ pub invariant_of-self : goal.invariant_of-self
 invariant_of-self g c =
     let x = c.self.inside in
     let row = subst (λ y. c.args.row < length y.declared) (sym c.self.view_is) c.requires in
-    subst (λ rows. AreHeld x.types.now rows x.holders) (sym c.take.ensures) (taken_held x.types.now x.rows c.args.row x.holders row c.self.invariant)
+    record { held = subst (λ rows. AreHeld x.types.now rows x.holders) (sym c.take.ensures) (taken_held x.types.now x.rows c.args.row x.holders row c.self.invariant.held); lacking = tt }
