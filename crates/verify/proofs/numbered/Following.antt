@@ -24,7 +24,7 @@ use Rattle.verify.specs.TypeSafety.{Frames, caught_frame}
 use Rattle.verify.specs.Verdict.{answer_conditions, one_handler, handler_conditions, is_covered}
 use Rattle.verify.specs.private.Catching.{answer_at}
 use Rattle.verify.specs.declared.pass.handlers.Handler.{Handler}
-use Rattle.verify.specs.private.pass.Following.{IsHandler, AreHandlers, one_handler_at}
+use Rattle.verify.specs.private.pass.Following.{IsHandler, AreHandlers, IsTaken, one_handler_at}
 
 -- ---- entries one after the other
 
@@ -161,6 +161,14 @@ covering x at e h is b o told r j = subst (λ cs. Judges cs r) (sym all) j
         ap (conditions_if classes frames at (held x) e) b
         ∙ ap (λ d. one_handler classes d (caught_frame e (held x))) is.frame.place.declared
         ∙ ap (answer_conditions 73) (sym told_by)
+
+-- and it comes to the handler where that is yes
+pub comes_by : (x : NumberedFrames) (e : ExceptionEntry) (h : Handler) → IsHandler x.types x.declared e h
+    → frame_answer x.types.classes (frame_by x.types (record x.running { stack = h.caught ∷ [] })) (frame_by x.types (declared_frame x h.frame)) ≡ yes → IsTaken x.types x.declared (held x) e
+comes_by x e h is told =
+    let type_is : type_by x.types h.caught ≡ to_reference e.caught = number_read x.types h.caught (to_reference e.caught) is.caught in
+    ap (λ d. answer_at x.types.classes d (caught_frame e (held x))) is.frame.place.declared
+    ∙ sym (ap (λ t. frame_answer x.types.classes (with_stack (held x) (t ∷ [])) (frame_by x.types (declared_frame x h.frame))) type_is) ∙ told
 
 -- ---- where an entry covers
 

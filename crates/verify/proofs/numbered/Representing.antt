@@ -244,6 +244,9 @@ module _ (ds : List (ℕ × NumberedFrame)) where
       by f (inl same) lt = subst (IsNamed old.list.items) (sym same) here
       by f (inr ne) lt = are.named f (subst (λ n. 0 < n) (ap (λ u. slice_index u f) is ∙ get_or-set_other old.until.items frame f n 0 ne) lt)
 
+pub last_of : (ys rs : List Representative) (o last : Option Representative) → o ≡ last → last ≡ slice_get ys (length ys - 1) → ys ≡ rs → o ≡ slice_get rs (length rs - 1)
+last_of ys rs o last is value same = is ∙ value ∙ ap (λ (zs : List Representative). slice_get zs (length zs - 1)) same
+
 -- the last one of a list, if there is one
 pub last_fits : (ds : List (ℕ × NumberedFrame)) (rs : List Representative) (o : Option Representative) (n frame : ℕ) → o ≡ slice_get rs (length rs - 1) → IfSome o (λ r. SharesBelow ds n r.frame frame)
     → (k : ℕ) (g : Representative) → k + 1 ≡ length rs → slice_get rs k ≡ Some g → SharesBelow ds n g.frame frame

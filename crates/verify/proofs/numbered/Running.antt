@@ -43,7 +43,16 @@ onward_kept a b e = record {
 -- the table is followed as before
 pub follows_on : (old now : NumberedFrames) → IsRunning old now → (es : List ExceptionEntry) (at : ℕ) (h : Handlers) → Follows old es at h → Follows now es at h
 follows_on old now r es at h k =
-    let before : Follows (record old { running = now.running }) es at h = record { entries = k.entries; shared = k.shared; settled = λ st is. let so = k.settled st is in record { past = so.past; alike = so.alike; taken = so.taken } } in
+    let before : Follows (record old { running = now.running }) es at h = record {
+      entries = k.entries;
+      moved = k.moved;
+      rises = k.rises;
+      few = k.few;
+      within = k.within;
+      reached = k.reached;
+      settled = λ place one o. let so = k.settled place one o in record { stands = so.stands; comes = so.comes };
+      representatives = k.representatives;
+    } in
     subst (λ (y : NumberedFrames). Follows y es at h) (sym r.others) before
 
 module _ (old now : NumberedFrames) (r : IsOnward old now) where

@@ -1,5 +1,5 @@
 -- A frame that comes to the handlers of entries, by what changed since the frame was kept that came to them.
-use Rattle.std.proofs.Common.{◌≡◌, ◌⊎◌, ◌∙◌, ℕ, zero, suc, ◌+◌, ◌≤◌, ◌<◌, Bool, true, false, List, [], ◌∷◌, length, get_or, slice_get, Option, Some, None, refl, sym, ap, ap₂, subst, inl, inr, arith}
+use Rattle.std.proofs.Common.{◌≡◌, ◌⊎◌, ◌∙◌, ℕ, zero, suc, ◌+◌, ◌≤◌, ◌<◌, Bool, true, false, ◌||◌, ◌&&◌, if◌then◌else◌, List, [], ◌∷◌, ◌++◌, length, get_or, slice_get, Option, Some, None, refl, sym, ap, ap₂, subst, inl, inr, arith}
 use Rattle.std.specs.Prelude.{slice_index}
 use Rattle.std.specs.Bool.{beq}
 use Rattle.std.proofs.lemmas.Bool.{cases_lt}
@@ -17,7 +17,7 @@ use Rattle.method_frames.specs.NumberedFrames.{NumberedFrame, NumberedFrames, fr
 use Rattle.method_frames.specs.MapFrames.{frames_by}
 use Rattle.numbered_rules.specs.Held.{held}
 use Rattle.verify.specs.TypeSafety.{caught_frame}
-use Rattle.verify.specs.Verdict.{handler_conditions}
+use Rattle.verify.specs.Verdict.{handler_conditions, one_handler, is_covered}
 use Rattle.verify.specs.private.Catching.{answer_at}
 use Rattle.verify.proofs.Caught.{none_against}
 use Rattle.frames.proofs.Sharing.{both_left, both_right}
@@ -25,9 +25,9 @@ use Rattle.verify.specs.declared.pass.handlers.Handler.{Handler}
 use Rattle.verify.specs.declared.pass.handlers.Handlers.{Handlers}
 use Rattle.verify.specs.declared.pass.representatives.Representatives.{Representatives}
 use Rattle.verify.specs.private.pass.Finding.{frame_in}
-use Rattle.verify.specs.private.pass.Following.{IsHandler, AreHandlers, IsTaken, IsOpen, IsSettled, AreBegunTaken, Follows, AreAhead, kept_frame}
+use Rattle.verify.specs.private.pass.Following.{IsHandler, AreHandlers, IsTaken, Comes, IsOpen, IsSettled, AreBegunTaken, Follows, AreAhead, kept_frame}
 use Rattle.verify.specs.private.pass.Representatives.{TakesLocal, TakesChanges, AreRepresentatives}
-use Rattle.verify.proofs.numbered.Starting.{has_handler, covering_open}
+use Rattle.verify.proofs.numbered.Starting.{has_handler, covering_open, same_one}
 
 -- ---- locals of which those that changed may stand where they are wanted
 
@@ -116,6 +116,10 @@ module _ (x : NumberedFrames) where
         tells (held x)
         (ap₂ both (ap (λ b. flag_answer b declared.flag) same ∙ both_left own (both locals stack) all) (ap₂ both fit (both_right locals stack slots)))
 
+  -- a frame that comes does so by its locals and its flag
+  pub kept_comes : (flag : Bool) (one : Handler) → x.kept ≡ x.running.locals → flag ≡ x.running.flag → Comes x (held x) one → Comes x (kept_frame x flag) one
+  kept_comes flag one kept own comes e is = same_taken (held x) (kept_frame x flag) e (ap (types_by s) (sym kept)) (sym own) (comes e is)
+
   -- ---- of all entries
 
   module _ (es : List ExceptionEntry) (at : ℕ) (h : Handlers) (k : Follows x es at h) where
@@ -144,10 +148,14 @@ module _ (x : NumberedFrames) where
         let o = covering_open x es at h k ahead place e t.handler t.got t.is here in
         taken o.0 t.handler (subst (λ n. IsOpen at n h o.0 t.handler) (sym all) o.1) e t.is)
 
-    -- nothing changed
+    -- nothing changed, where all were compared
     pub unchanged : x.running.flag ≡ h.flag → length x.kept ≡ length x.running.locals → ((i : ℕ) → 0 ≤ i → i < length x.running.locals → get_or x.running.locals i 0 ≡ get_or x.kept i 0)
         → AreBegunTaken x at h
     unchanged own even same = changes_settled own (sym even) (λ f lt i less. inl (same i (omega arith) less))
+
+    -- the frame is the one that was kept
+    pub kept_taken : x.kept ≡ x.running.locals → h.flag ≡ x.running.flag → AreBegunTaken x at h
+    kept_taken kept own = unchanged (sym own) (ap length kept) (λ i a b. ap (λ ls. get_or ls i 0) (sym kept))
 
   -- ---- the running frame is kept
 
@@ -206,6 +214,12 @@ follows_dropped x es at h rs are same k = record {
   representatives = are;
 }
 
+-- an entry was compared, and a frame stands for that of its handler
+pub settled_one : (x : NumberedFrames) (h : Handlers) (one other : Handler) (rs : Representatives) → one ≡ get_or h.by_start.items h.settled one → slice_get h.by_start.items h.settled ≡ Some other
+    → one.to ≤ slice_index rs.until.items one.lead → Comes x (kept_frame x h.flag) one → IsSettled x h.flag rs.until.items other
+settled_one x h one other rs is there stands comes =
+    subst (IsSettled x h.flag rs.until.items) (same_one h.by_start.items h.settled one other is there) (record { stands = stands; comes = comes })
+
 -- one more was compared, or has ended
 pub follows_settled : (x : NumberedFrames) (es : List ExceptionEntry) (at : ℕ) (h : Handlers) (rs : Representatives) (n : ℕ) → n ≡ h.settled + 1 → h.settled < h.begun → AreRepresentatives x.declared rs
     → ((f : ℕ) → slice_index h.representatives.until.items f ≤ slice_index rs.until.items f)
@@ -232,6 +246,23 @@ follows_settled x es at h rs n more lt are grows here k = record {
         let early = o.early in
         let is : place ≡ h.settled = omega (arith, early, behind, more) in
         here one (ap (slice_get h.by_start.items) (sym is) ∙ o.here) o.lasts
+
+-- no entry covers the offset
+pub none_covered : (x : NumberedFrames) (es : List ExceptionEntry) (at : ℕ) (f : FrameFact) → is_covered es at ≡ false → least (handler_conditions x.types.classes (frames_by x.types x.declared) at f es) ≡ None
+none_covered x [] at f none = refl
+none_covered x (e ∷ es) at f none =
+    let both = neither (covers e at) (is_covered es at) none in
+    ap (λ b. least ((if b then one_handler x.types.classes (at_offset (frames_by x.types x.declared) e.handler) (caught_frame e f) else []) ++ handler_conditions x.types.classes (frames_by x.types x.declared) at f es)) both.0
+    ∙ none_covered x es at f both.1
+  where
+    neither : (a b : Bool) → (a || b) ≡ false → (a ≡ false) × (b ≡ false)
+    neither false b e = (refl, e)
+    neither true b e = absurd (cc)
+
+pub two_true : (a b : Bool) → (a && b) ≡ true → (a ≡ true) × (b ≡ true)
+two_true true true e = (refl, refl)
+two_true true false e = absurd (cc)
+two_true false b e = absurd (cc)
 
 pub same_flag : (a b : Bool) → beq a b ≡ true → a ≡ b
 same_flag true true e = refl

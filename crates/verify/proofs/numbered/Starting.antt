@@ -1,6 +1,6 @@
 -- The entries of an exception table in the order in which their ranges begin.
-use Rattle.std.proofs.Common.{◌≡◌, ◌⊎◌, ◌∙◌, ℕ, zero, suc, ◌+◌, ◌≤◌, ◌<◌, Bool, true, false, List, [], ◌∷◌, length, slice_get, Option, Some, refl, sym, ap, subst, inl, inr, arith}
-use Rattle.std.specs.Prelude.{Contains}
+use Rattle.std.proofs.Common.{◌≡◌, ◌⊎◌, ◌∙◌, ℕ, zero, suc, ◌+◌, ◌≤◌, ◌<◌, Bool, true, false, List, [], ◌∷◌, length, get_or, slice_get, Option, Some, refl, sym, ap, subst, inl, inr, arith}
+use Rattle.std.specs.Prelude.{Contains, max}
 use Rattle.std.specs.List.Sorted.{IsPermutation, IsNonDecreasingBy}
 use Rattle.std.proofs.lemmas.Bool.{cases_lt}
 use Rattle.std.proofs.lemmas.Option.{slice_get_within, get_or_from_slice_get, slice_get-get_or}
@@ -11,6 +11,7 @@ use Rattle.method_frames.specs.NumberedFrames.{NumberedFrame, NumberedFrames}
 use Rattle.verify.specs.Verdict.{is_covered}
 use Rattle.verify.specs.declared.pass.handlers.Handler.{Handler}
 use Rattle.verify.specs.declared.pass.handlers.Handlers.{Handlers}
+use Rattle.verify.specs.private.pass.Representatives.{AreRepresentatives}
 use Rattle.verify.specs.private.pass.Following.{IsHandler, AreHandlers, IsOpen, HasReached, Follows, AreAhead}
 use Rattle.verify.proofs.numbered.Following.{has_entry, covered_by, covered_by_none, begun_covers, covered_starts, covered_ends}
 use Rattle.verify.proofs.numbered.Representing.{some_same}
@@ -27,6 +28,42 @@ has_handler s ds [] hs k e a got = absurd (cc)
 has_handler s ds (x ∷ es) [] k e a got = absurd a
 has_handler s ds (x ∷ es) (h ∷ hs) zero e a got = let same : x ≡ e = cc in record { handler = h; got = refl; is = subst (λ y. IsHandler s ds y h) same a.0 }
 has_handler s ds (x ∷ es) (h ∷ hs) (suc k) e a got = let t = has_handler s ds es hs k e a.1 got in record { handler = t.handler; got = t.got; is = t.is }
+
+-- ---- the order of starts
+
+-- those behind an entry do not begin before it
+pub later_starts : (xs : List Handler) (n : ℕ) (x : Handler) → IsNonDecreasingBy (λ (one : Handler). one.from) xs → (place : ℕ) (one : Handler) → n ≤ place → slice_get xs place ≡ Some one
+    → x ≡ get_or xs n x → x.from ≤ one.from
+later_starts xs n x rises place one behind there is =
+    let within = slice_get_within xs place one there in
+    let r = rises n place x behind within in
+    let first = ap (λ (z : Handler). z.from) is in
+    let last = ap (λ (z : Handler). z.from) (get_or_from_slice_get xs place one x there) in
+    omega (arith, r, first, last)
+
+-- the item that was read is the one at its place
+pub same_one : (xs : List Handler) (n : ℕ) (x other : Handler) → x ≡ get_or xs n x → slice_get xs n ≡ Some other → x ≡ other
+same_one xs n x other is there = is ∙ get_or_from_slice_get xs n other x there
+
+pub greater_of : (a b c : ℕ) → c ≡ max a b → (c ≡ a) ⊎ (c ≡ b)
+greater_of a b c is = elim (cases_lt a b) [
+  | inl lt ↦ inr (omega (arith, is, lt))
+  | inr le ↦ inl (omega (arith, is, le))
+]
+
+-- before the first instruction
+pub follows_first : (x : NumberedFrames) (es : List ExceptionEntry) (h : Handlers) → AreHandlers x.types x.declared es h.table.items → IsPermutation h.table.items h.by_start.items
+    → IsNonDecreasingBy (λ (one : Handler). one.from) h.by_start.items → h.begun ≡ 0 → h.settled ≡ 0 → h.reach ≡ 0 → AreRepresentatives x.declared h.representatives → Follows x es 0 h
+follows_first x es h a moved rises begun settled reach are = record {
+  entries = a;
+  moved = moved;
+  rises = rises;
+  few = omega (arith, begun, settled);
+  within = omega (arith, begun);
+  reached = record { started = λ place one lt here. absurd (omega (arith, lt, begun)); last = inl reach };
+  settled = λ place one o. absurd (let early = o.early in omega (arith, early, settled));
+  representatives = are;
+}
 
 -- ---- both orders have the entries
 
@@ -51,6 +88,13 @@ module _ (x : NumberedFrames) (es : List ExceptionEntry) (at : ℕ) (h : Handler
         | inr ge ↦ (let later = ahead m.0 one ge m.1 in absurd (omega (arith, later, starts, from)))
       ] in
       (m.0, record { early = early; here = m.1; lasts = omega (arith, ends, to) })
+
+  -- one of them is that of an entry of the table
+  pub entry_of_start : (n : ℕ) (one : Handler) → slice_get h.by_start.items n ≡ Some one → (e : ExceptionEntry) × IsHandler x.types x.declared e one
+  entry_of_start n one here =
+      let m = moved_to h.by_start.items h.table.items n one (IsPermutation-sym h.table.items h.by_start.items k.moved) here in
+      let entry = has_entry x.types x.declared es h.table.items m.0 one k.entries (slice_get_within h.table.items m.0 one m.1) in
+      (entry.entry, subst (IsHandler x.types x.declared entry.entry) (get_or_from_slice_get h.table.items m.0 one one m.1) entry.is)
 
   -- ---- whether one covers the offset
 

@@ -8,7 +8,7 @@ ghost use Rattle.method_frames.specs.MapFrames.{frames_by};
 ghost use Rattle.numbered_rules.specs.Held.{held};
 ghost use Rattle.rules.specs.Outcomes.{Judges};
 ghost use Rattle.verify.specs.Verdict.{handler_conditions, is_covered};
-ghost use Rattle.verify.specs.private.pass.Following.{IsHandler, AreHandlers, IsTaken, AreBegunTaken, Follows, AreAhead, one_handler_at};
+ghost use Rattle.verify.specs.private.pass.Following.{IsHandler, AreHandlers, IsTaken, IsUnchanged, AreBegunTaken, Follows, AreAhead, one_handler_at};
 
 use crate::flow::check_answer;
 use crate::pass::representatives::Representatives;
@@ -90,6 +90,24 @@ fn comes<C: Classes>(handler: &Handler, frames: &mut MethodFrames<'_, '_, '_, C>
     )
 }
 
+/// Whether the running frame has the locals that were kept, and this flag.
+fn is_unchanged<C: Classes>(flag: bool, frames: &MethodFrames<'_, '_, '_, C>) -> bool
+    ensures { IsTrue result → IsUnchanged frames.now flag }
+{
+    frames.flag() == flag && frames.first_changed(0).is_none()
+}
+
+/// The entries of an exception table once more.
+fn copied(alloc: Global, table: &[Handler]) -> Result<Vec<Handler>, AllocError>
+    ensures { IfOk result (λ v. v.items ≡ table.now) }
+{
+    let mut copy = Vec::with_capacity(alloc, table.len())?;
+    for handler in table {
+        copy.push(*handler)?;
+    }
+    Ok(copy)
+}
+
 /// The entries of an exception table. At an instruction, the frame is compared with the handlers of those that begin to
 /// cover it; with the others only by the local variables that changed, and once for all whose frames have the same locals.
 #[derive(Drop)]
@@ -116,7 +134,7 @@ impl Handlers {
         ensures { (x : NumberedFrames) (es : List ExceptionEntry) → AreHandlers x.types x.declared es table.items
             → IfOk result (Follows x es 0) }
     {
-        let mut by_start = table.to_vec(alloc)?;
+        let mut by_start = copied(alloc, &table)?;
         by_start.sort_by_key(|handler| handler.from)?;
         Ok(Handlers {
             table,
@@ -173,14 +191,12 @@ impl Handlers {
         if !self.covers(at) {
             return true;
         }
-        self.settled == self.begun
-            && frames.flag() == self.flag
-            && frames.first_changed(0).is_none()
+        self.settled == self.begun && is_unchanged(self.flag, frames)
     }
 
     /// Whether the frames of all handlers that were compared, as long as their entries last, take what changed since.
     fn take_changes<C: Classes>(&self, frames: &MethodFrames<'_, '_, '_, C>) -> bool
-        requires { (es : List ExceptionEntry) (at : ℕ) × Follows frames.now es at self.now }
+        requires { (es : List ExceptionEntry) × (at : ℕ) × Follows frames.now es at self.now }
         ensures { let x = frames.now in IsTrue result → (es : List ExceptionEntry) (at : ℕ)
             → Follows x es at self.now → AreBegunTaken x at self.now }
     {
@@ -291,7 +307,10 @@ impl Handlers {
         ensures followed { (es : List ExceptionEntry) → Follows frames.old es at self.old
             → OnOk result (Follows frames.new es at self.new) }
     {
-        if self.are_idle(at, frames) || self.settle(at, frames)? {
+        if self.are_idle(at, frames) {
+            return Ok(());
+        }
+        if self.settle(at, frames)? {
             return Ok(());
         }
         check_handlers(at, &self.table, frames)

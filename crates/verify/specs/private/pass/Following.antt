@@ -1,5 +1,5 @@
 -- The entries of an exception table while a pass goes over the code, their handlers by the places of their frames.
-use Rattle.std.specs.Prelude.{◌≡◌, ◌⊎◌, ℕ, ◌+◌, ◌≤◌, ◌<◌, Bool, true, pos, if◌then◌else◌, List, [], ◌∷◌, length, slice_get, slice_index, Option, Some}
+use Rattle.std.specs.Prelude.{◌≡◌, ◌⊎◌, ℕ, ◌+◌, ◌≤◌, ◌<◌, Bool, true, pos, if◌then◌else◌, List, [], ◌∷◌, length, slice_get, slice_index, Option, Some, None}
 use Rattle.std.specs.List.Sorted.{IsNonDecreasingBy, IsPermutation}
 use Rattle.classfile.specs.Methods.{ExceptionEntry, covers}
 use Rattle.hierarchy.specs.Class.{ClassFact}
@@ -8,6 +8,7 @@ use Rattle.insn.specs.Offsets.{at_offset}
 use Rattle.frames.specs.FrameFact.{FrameFact}
 use Rattle.frames.specs.Slots.{to_reference}
 use Rattle.frames.specs.Conditions.{Conditions}
+use Rattle.blocks.specs.Rows.{IsFirstUnequal}
 use Rattle.type_numbers.specs.Numbers.{Numbering, IsNumber}
 use Rattle.type_numbers.specs.Decoding.{types_by}
 use Rattle.method_frames.specs.NumberedFrames.{NumberedFrame, NumberedFrames}
@@ -62,6 +63,12 @@ pub record IsSettled (x : NumberedFrames) (flag : Bool) (until : List ℕ) (h : 
   pub comes : Comes x (kept_frame x flag) h
 
 -- ---- while the pass goes on
+
+-- the frame has the locals that were kept, and this flag
+pub record IsUnchanged (x : NumberedFrames) (flag : Bool) : Type 0 where
+  pub own : x.running.flag ≡ flag
+  pub locals : IsFirstUnequal x.running.locals x.kept 0 None
+  pub even : length x.kept ≡ length x.running.locals
 
 -- an entry of this place among those in the order of their starts, whose range has not ended
 pub record IsOpen (at n : ℕ) (h : Handlers) (place : ℕ) (one : Handler) : Type 0 where

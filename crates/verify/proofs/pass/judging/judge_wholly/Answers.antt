@@ -48,7 +48,7 @@ pub judge_named-requires-clause-bootstrapped : goal.judge_named-requires-clause-
 judge_named-requires-clause-bootstrapped g c = c.facts_of-facts.ensures.bootstrapped ∙ c.in_ok-named.ensures.found.bootstrapped
 
 pub catch-caught-requires : goal.catch-caught-requires
-catch-caught-requires g c = ((method_view c.args.body.now.method.now).exceptions, c.requires.handlers)
+catch-caught-requires g c = record { follows = ((method_view c.args.body.now.method.now).exceptions, c.requires.handlers); ahead = c.requires.ahead }
 
 pub returns-clause-judged : goal.returns-clause-judged
 returns-clause-judged g c = λ next e.
@@ -59,7 +59,7 @@ returns-clause-judged g c = λ next e.
     let a = act_view c.args.act.now in
     let p = typing_rule m a in
     let f = held start in
-    let looked = c.covers_constructor-covered.ensures start m.exceptions c.requires.handlers in
+    let looked = c.covers_constructor-covered.ensures start m.exceptions c.requires.handlers c.requires.ahead in
     let caught = c.catch-caught.ensures.judged m.exceptions c.requires.handlers in
     let before = c.together-before.ensures.judged (member_conditions classes m a f) (handler_conditions classes frames c.args.at f m.exceptions) c.check_member-used.ensures.judged caught in
     let end = end_as m c.args.at a c.args.last f c.goes_on.result c.covers_constructor-covered.result c.check_end.result c.goes_on.ensures

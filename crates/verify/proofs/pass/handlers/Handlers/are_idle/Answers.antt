@@ -1,14 +1,15 @@
-use Rattle.std.proofs.Common.{◌∙◌, sym, arith}
-use Rattle.std.proofs.lemmas.Bool.Decides.{nat_tests}
-use Rattle.verify.proofs.numbered.Settling.{no_entries_idle, idle}
+use Rattle.std.proofs.Common.{◌∙◌, sym, refl, arith}
+use Rattle.numbered_rules.specs.Held.{held}
+use Rattle.verify.proofs.numbered.Settling.{unchanged, none_against_all, none_covered}
 use Rattle.verify.proofs.pass.handlers.Handlers.are_idle.Goals as goal
 
-pub returns-in-None : goal.returns-in-None
-returns-in-None g c = λ t es k.
-    let h = c.args.self.now in
-    let is = sym c.is_empty.ensures ∙ t in
-    no_entries_idle c.args.frames.now es c.args.at h h.table.len h.table.ok.0 (grind (arith, nat_tests, is)) k
+pub returns-then-not-covers : goal.returns-then-not-covers
+returns-then-not-covers g c = λ t es k ahead.
+    none_covered c.args.frames.now es c.args.at (held c.args.frames.now) (sym (c.covers.ensures c.args.frames.now es k ahead) ∙ c.if-not-covers.true)
 
-pub returns-in-Some : goal.returns-in-Some
-returns-in-Some g c = λ t es k.
-    idle c.args.frames.now es c.args.at c.args.self.now k c.in-Some.settled c.in-Some.is (c.is_unchanged.ensures t)
+pub returns-then-self : goal.returns-then-self
+returns-then-self g c = λ t es k ahead.
+    let x = c.args.frames.now in
+    let h = c.args.self.now in
+    let same = c.is_unchanged.ensures t in
+    none_against_all x es c.args.at h k ahead c.if-self.true (unchanged x es c.args.at h k same.own same.even same.locals)

@@ -21,4 +21,4 @@ pub returns-clause-taken : goal.returns-clause-taken
 returns-clause-taken g c = λ t f lt.
     let x = c.args.frames.now in
     let rs = c.args.self.now.list.items in
-    changes_named x rs (changes_all x rs c.loop-place.from c.loop-place.invariant.taken c.in_default.ensures.first) f (c.requires.named f lt)
+    changes_named x rs (changes_all x rs c.loop-place.from c.loop-place.invariant.taken c.in_default.ensures.first) f (c.requires.representatives.named f lt)
