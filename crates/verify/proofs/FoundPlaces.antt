@@ -1,6 +1,6 @@
 -- A target or a handler at which the frame does not fit is found, and so is an entry of the exception table.
-use Rattle.std.proofs.Common.{◌≡◌, ◌⊎◌, inl, inr, ℕ, suc, ℤ, pos, negsuc, Bool, true, false, is_some, is_none, List, [], ◌∷◌, length, Option, Some, None, refl, sym, ◌∙◌, ap, true≢false, if◌then◌else◌}
-use Rattle.std.specs.Option.{option_or, option_map}
+use Rattle.std.proofs.Common.{◌≡◌, inl, inr, ℕ, suc, ℤ, pos, Bool, true, false, is_some, is_none, List, [], ◌∷◌, length, Option, Some, None, refl, sym, ◌∙◌, ap, if◌then◌else◌}
+use Rattle.std.specs.Option.{option_map}
 use Rattle.classfile.specs.Methods.{Method, ExceptionEntry, covers}
 use Rattle.hierarchy.specs.Class.{ClassFact}
 use Rattle.hierarchy.specs.Answer.{no}
@@ -16,7 +16,7 @@ use Rattle.rules.proofs.FoundOperands.{or_first, or_second}
 use Rattle.verify.specs.TypeSafety.{Frames, caught_frame}
 use Rattle.verify.specs.Verdict.{table_conditions}
 use Rattle.verify.specs.Breaks.{Meets}
-use Rattle.verify.specs.DifferencesAt.{DifferenceAtFact, placed, from_declared, at_target, at_targets, at_handler, at_handlers, first_refused, first_covering}
+use Rattle.verify.specs.DifferencesAt.{placed, from_declared, at_target, at_targets, at_handler, at_handlers, first_refused, first_covering}
 
 pub differs : (classes : List ClassFact) (f g : FrameFact) (n : ℕ) → length f.locals ≡ n → length g.locals ≡ n → frame_answer classes f g ≡ no → is_some (first_difference classes f g) ≡ true
 differs classes f g n h k e = sym (no_difference classes f g (h ∙ sym k)) ∙ ap is_no e

@@ -1,7 +1,7 @@
 -- The frames at an instruction, from one instruction to the next.
 use Rattle.std.proofs.Common.{◌≡◌, ℕ, zero, suc, ◌+◌, ◌-◌, ◌<◌, ◌≤◌, Bool, true, false, ◌&&◌, is_none, nat_eq, nat_lt, List, [], ◌∷◌, ◌++◌, length, map, ◌⊎◌, inl, inr, Option, Some, None, Result, Ok, Err, refl, sym, ◌∙◌, ap, arith, if◌then◌else◌, eq-eqb, eqb-true}
 use Rattle.std.specs.Prelude.{◌≢◌, IfOk, replicate, slice_get}
-use Rattle.std.proofs.lemmas.List.{length-map, length-append, length-replicate}
+use Rattle.std.proofs.lemmas.List.{length-map}
 use Rattle.std.proofs.lemmas.Bool.Decides.{nat_tests}
 use Rattle.layout.specs.Place.{Place}
 use Rattle.classfile.specs.Methods.{Method, receiver_of}

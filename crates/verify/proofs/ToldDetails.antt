@@ -1,8 +1,7 @@
 -- Where a method is refused for an operand, a local variable, a target, a handler, a frame that comes or an entry of the
 -- exception table, it is told what is wrong.
-use Rattle.std.proofs.Common.{◌≡◌, ◌⊎◌, inl, inr, ℕ, zero, suc, ◌≤◌, ℤ, pos, Bool, true, false, ◌&&◌, ◌||◌, is_some, is_none, nat_eq, nat_lt, List, [], ◌∷◌, length, Option, Some, None, Result, Ok, Err, refl, sym, ◌∙◌, ap, subst, arith, true≢false, eqb-true, if◌then◌else◌}
-use Rattle.std.specs.Option.{option_map}
-use Rattle.classfile.specs.Methods.{Method, ExceptionEntry, covers}
+use Rattle.std.proofs.Common.{◌≡◌, ◌⊎◌, inl, inr, ℕ, ◌≤◌, ℤ, pos, Bool, true, false, ◌&&◌, ◌||◌, is_some, is_none, nat_eq, nat_lt, List, [], ◌∷◌, length, Option, Some, None, Result, Ok, Err, refl, sym, ◌∙◌, ap, subst, arith, true≢false, eqb-true, if◌then◌else◌}
+use Rattle.classfile.specs.Methods.{Method, ExceptionEntry}
 use Rattle.hierarchy.specs.Class.{ClassFact}
 use Rattle.hierarchy.specs.Answer.{Outcome, yes, no, missing}
 use Rattle.insn.specs.Meanings.{Act}
@@ -25,10 +24,10 @@ use Rattle.rules.proofs.Directions.{way_of}
 use Rattle.rules.proofs.FoundOperands.{holds, among_holds, found_missing, found_wrong, found_local, IsOfNoRule, rule_none}
 use Rattle.verify.specs.InitialFrames.{initial_types, initial_frame}
 use Rattle.verify.specs.TypeSafety.{Frames, caught_frame}
-use Rattle.verify.specs.Verdict.{MapRefusal, Verdict, refused, map_refused, answer_conditions, table_conditions, table_judged, at_conditions, entry, code_judged, frames_declared, with_frames, verdict}
-use Rattle.verify.specs.Breaks.{Holds, HasNoFrame, Meets, Target, Covering, Breaks, rule, no_frame_at_target, not_assignable_at_target, missing_at_target, protected_member, missing_object, no_frame_at_handler, not_assignable_at_handler, missing_at_handler, falls_off, constructor_covered, BreaksEntry, covers_nothing, no_start, no_end, no_handler, no_handler_frame, no_throwable, missing_class, IsLeast}
-use Rattle.verify.specs.DifferencesAt.{target_difference, handler_difference, at_targets, at_handlers, first_refused, first_covering}
-use Rattle.verify.specs.Details.{DetailFact, arriving, taken, target, handler, entry as entry_at, detail_at, arriving_if, refused_if, covering_if, unmet_if, target_if, handler_if}
+use Rattle.verify.specs.Verdict.{MapRefusal, Verdict, refused, answer_conditions, table_conditions, table_judged, at_conditions, code_judged, frames_declared, with_frames}
+use Rattle.verify.specs.Breaks.{Holds, Meets, Target, Covering, Breaks, rule, no_frame_at_target, not_assignable_at_target, missing_at_target, protected_member, missing_object, no_frame_at_handler, not_assignable_at_handler, missing_at_handler, falls_off, constructor_covered, BreaksEntry, covers_nothing, no_start, no_end, no_handler, no_handler_frame, no_throwable, missing_class}
+use Rattle.verify.specs.DifferencesAt.{target_difference, handler_difference, at_targets, first_refused, first_covering}
+use Rattle.verify.specs.Details.{arriving, taken, target, handler, entry as entry_at, arriving_if, refused_if, covering_if, unmet_if, target_if, handler_if}
 use Rattle.verify.specs.Coming.{FramesFact, frames_with, before, frame_if, going, met, frames_at}
 use Rattle.verify.specs.JudgedFrames.{entry_by, IsJudgedBy}
 use Rattle.verify.specs.DetailLaws.{told_numbers, IsTold, HasNoFormAt, DetailsAreTold}

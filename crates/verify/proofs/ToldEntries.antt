@@ -1,20 +1,19 @@
 -- Where a stack map is refused, it is told which entry is at fault, if one is.
-use Rattle.std.proofs.Common.{◌≡◌, ◌⊎◌, inl, inr, ℕ, ◌<◌, ◌≤◌, Bool, true, false, is_some, nat_eq, nat_lt, List, [], length, Option, Some, None, Result, Ok, Err, refl, sym, ◌∙◌, ap, arith, ltb-true, ltb-false, if◌then◌else◌}
+use Rattle.std.proofs.Common.{◌≡◌, ◌⊎◌, inl, inr, ℕ, ◌<◌, ◌≤◌, Bool, true, false, is_some, nat_eq, nat_lt, List, length, Option, Some, None, Result, Ok, Err, refl, sym, ◌∙◌, ap, arith, ltb-true, ltb-false}
 use Rattle.std.proofs.lemmas.Bool.{le-ltb}
 use Rattle.std.proofs.lemmas.Bool.Decides.{nat_tests}
-use Rattle.std.specs.Option.{option_map, option_and_then}
+use Rattle.std.specs.Option.{option_and_then}
 use Rattle.layout.specs.Place.{Place}
 use Rattle.layout.specs.Format.{reads}
 use Rattle.layout.specs.FormatLaws.{reads_fault}
 use Rattle.layout.specs.declared.fault.ReadFault.{ReadFault}
 use Rattle.classfile.specs.Methods.{Method}
-use Rattle.hierarchy.specs.Class.{ClassFact}
 use Rattle.insn.specs.Meanings.{Act}
 use Rattle.frames.specs.Slots.{in_locals}
 use Rattle.frames.specs.Conditions.{Reason}
 use Rattle.frames.specs.StackMaps.{MapEntry, stack_map}
 use Rattle.frames.specs.DeclaredFrames.{declared_frames}
-use Rattle.frames.specs.RefusedEntries.{RefusedFact, refused_entry, faulty_entry}
+use Rattle.frames.specs.RefusedEntries.{refused_entry, faulty_entry}
 use Rattle.frames.proofs.Differences.{some_map, the_some}
 use Rattle.frames.proofs.FaultyEntries.{faulty_is_fault}
 use Rattle.frames.proofs.Refused.{refused_is_reason}
@@ -22,9 +21,9 @@ use Rattle.rules.specs.Table.{typing_rule}
 use Rattle.verify.specs.InitialFrames.{initial_types}
 use Rattle.verify.specs.TypeSafety.{Frames}
 use Rattle.verify.specs.Verdict.{MapRefusal, all_entries, entries_read, or_undeclared, frames_of, frames_declared}
-use Rattle.verify.specs.Details.{DetailFact, map_entry, refused_detail, faulty_detail, map_detail_of, map_detail}
-use Rattle.verify.specs.Coming.{FramesFact, without_map, frames_at}
-use Rattle.verify.specs.DetailLaws.{IsTold, IsInNoEntry, MapDetailsAreTold}
+use Rattle.verify.specs.Details.{map_entry, refused_detail, faulty_detail, map_detail_of, map_detail}
+use Rattle.verify.specs.Coming.{FramesFact, frames_at}
+use Rattle.verify.specs.DetailLaws.{IsInNoEntry, MapDetailsAreTold}
 use Rattle.verify.proofs.verdicts.MapFaults.{map_refused_where, fault_refused}
 use Rattle.verify.proofs.Meeting.{map_is}
 

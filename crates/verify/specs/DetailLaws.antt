@@ -1,5 +1,5 @@
 -- Where a method is refused for a reason of one of these numbers, it is told what is wrong (JVMS 4.10.1.6).
-use Rattle.std.specs.Prelude.{◌≡◌, ◌⊎◌, ◌<◌, ℕ, List, [], ◌∷◌, length, Option, Some, Ok}
+use Rattle.std.specs.Prelude.{◌≡◌, ◌⊎◌, ◌<◌, ℕ, List, [], ◌∷◌, length, Some, Ok}
 use Rattle.layout.specs.Place.{Place}
 use Rattle.layout.specs.Format.{reads}
 use Rattle.classfile.specs.Methods.{Method}

@@ -11,7 +11,7 @@ use Rattle.frames.specs.FrameFact.{FrameFact}
 use Rattle.frames.specs.Differences.{DifferenceFact, difference_of}
 use Rattle.frames.specs.declared.difference.Sought.{Sought}
 use Rattle.frames.specs.declared.difference.Sought.TheVariants.{No, Missing}
-use Rattle.frames.specs.Conditions.{Reason, Conditions, least}
+use Rattle.frames.specs.Conditions.{Reason, least}
 use Rattle.frames.specs.StackMaps.{MapEntry}
 use Rattle.frames.specs.RefusedEntries.{RefusedFact, refused_entry, faulty_entry}
 use Rattle.rules.specs.ReasonNumbers.{missing_operand, wrong_operand, wrong_local, not_assignable_at_target, not_assignable, bad_exception, handler_not_assignable, constructor_covered, absent_class}

@@ -1,16 +1,14 @@
 -- The numbers of the types of a class, and of one of its methods.
-use Rattle.std.proofs.Common.{◌≡◌, ◌∙◌, ◌+◌, ◌<◌, ◌≤◌, ℕ, zero, suc, Bool, true, false, not, List, [], ◌∷◌, ◌++◌, map, take, length, get_or, Option, Some, None, Ok, option_map, option_to_list, cond, refl, sym, ap, subst, arith, inl, inr, ◌⊎◌, ◌&&◌}
+use Rattle.std.proofs.Common.{◌≡◌, ◌∙◌, ◌+◌, ◌<◌, ◌≤◌, ℕ, zero, suc, Bool, true, false, not, List, [], ◌∷◌, ◌++◌, length, Option, Some, None, Ok, option_map, option_to_list, refl, sym, ap, subst, arith, inl, inr, ◌⊎◌, ◌&&◌}
 use Rattle.std.specs.Prelude.{if◌then◌else◌}
 use Rattle.std.specs.Prelude.{slice_get, slice_index, slice_index_or}
 use Rattle.std.specs.Option.{option_and_then}
 use Rattle.std.specs.Str.{bytes_eq}
 use Rattle.std.proofs.lemmas.Option.{slice_get_within}
 use Rattle.std.proofs.lemmas.Bool.{true≢false, cases_lt}
-use Rattle.names.specs.Descriptors.{MethodDescriptor, method_width}
+use Rattle.names.specs.Descriptors.{MethodDescriptor}
 use Rattle.names.specs.Reading.{method_answer}
 use Rattle.names.proofs.AnswerLaws.{method_answered, method_spelled}
-use Rattle.pool.specs.Entries.{Entry}
-use Rattle.pool.specs.Lookups.{text_at}
 use Rattle.pool.specs.ConstantMeanings.{found}
 use Rattle.classfile.specs.Values.{Class, Member}
 use Rattle.classfile.specs.Methods.{Method, Receiver, no_receiver, ready_receiver, own_receiver, receiver_of}
@@ -21,8 +19,8 @@ use Rattle.classfile.proofs.MethodLaws.{member_of, read_from}
 use Rattle.insn.specs.Meanings.{Act}
 use Rattle.frames.specs.VerificationType.{VerificationType, class as class_type}
 use Rattle.frames.specs.Slots.{descriptor_type}
-use Rattle.type_numbers.specs.Numbers.{Numbering, Extends, IsNumber, IsNumberOf, IsGiven}
-use Rattle.type_numbers.specs.Decoding.{type_by, types_by}
+use Rattle.type_numbers.specs.Numbers.{Numbering, Extends, IsNumberOf, IsGiven}
+use Rattle.type_numbers.specs.Decoding.{types_by}
 use Rattle.type_numbers.specs.MethodNumbers.{AreNumbers, AreTypes, AreTypesOf, GoesOn, method_in, row_of}
 use Rattle.type_numbers.specs.declared.method_numbers.MethodNumbers.{MethodNumbers}
 use Rattle.type_numbers.proofs.Decoded.{number_read}

@@ -1,5 +1,5 @@
 -- Frames that stand for others no longer are taken out of their list, which is gone through once.
-use Rattle.std.proofs.Common.{◌≡◌, ◌⊎◌, ◌∙◌, ℕ, zero, suc, ◌+◌, ◌≤◌, ◌<◌, List, [], ◌∷◌, ◌++◌, length, get_or, slice_get, Some, refl, sym, ap, subst, inl, inr, arith}
+use Rattle.std.proofs.Common.{◌≡◌, ◌⊎◌, ◌∙◌, ℕ, ◌+◌, ◌≤◌, ◌<◌, List, [], ◌∷◌, ◌++◌, length, slice_get, Some, refl, sym, ap, subst, inl, inr, arith}
 use Rattle.std.specs.Prelude.{slice_index, set}
 use Rattle.std.proofs.lemmas.Bool.{cases_lt, cases_eq}
 use Rattle.std.proofs.lemmas.List.{get_or-set_other, get_or-set_same, length-set, length-append}
@@ -9,7 +9,7 @@ use Rattle.verify.specs.declared.pass.representatives.Representative.{Representa
 use Rattle.verify.specs.declared.pass.representatives.Representatives.{Representatives}
 use Rattle.verify.specs.private.pass.Representatives.{SharesBelow, IsChain, IsCommon, IsNamed, IsWithin, AreRepresentatives, IsPut}
 use Rattle.verify.specs.private.pass.Finding.{frame_in}
-use Rattle.verify.proofs.numbered.Representing.{some_same, pushed_last, shares_less, shares_on, index_at, put_chain, put_common, put_named, put_last, put_each}
+use Rattle.verify.proofs.numbered.Representing.{some_same, pushed_last, shares_less, shares_on, put_chain, put_common, put_named, put_last, put_each}
 
 -- the list from a place on has a frame
 pub record IsLeft (rs : List Representative) (i frame : ℕ) : Type 0 where

@@ -1,5 +1,5 @@
 -- Numbers of types, one after the other.
-use Rattle.std.proofs.Common.{◌≡◌, ℕ, List, map, Option, Some, None, option_map, Bor, ap}
+use Rattle.std.proofs.Common.{◌≡◌, ℕ, List, Option, Some, None, option_map, Bor, ap}
 use Rattle.std.specs.Prelude.{MatchOption, IsSomeAnd}
 use Rattle.frames.specs.declared.vtype.VType.{VType}
 use Rattle.frames.specs.declared.vtype.VType.TheVariants.{Class}

@@ -1,17 +1,16 @@
 -- Declared frames that stand for others: what they share, and what they take.
-use Rattle.std.proofs.Common.{◌≡◌, ◌⊎◌, ◌∙◌, ℕ, zero, suc, ◌+◌, ◌-◌, ◌≤◌, ◌<◌, false, nat_eq, List, [], ◌∷◌, ◌++◌, length, get_or, slice_get, Option, Some, None, refl, sym, ap, subst, inl, inr, arith}
+use Rattle.std.proofs.Common.{◌≡◌, ◌⊎◌, ◌∙◌, ℕ, zero, suc, ◌+◌, ◌-◌, ◌≤◌, ◌<◌, false, nat_eq, List, [], ◌∷◌, ◌++◌, length, get_or, slice_get, Option, Some, refl, sym, ap, subst, inl, inr, arith}
 use Rattle.std.specs.Prelude.{slice_index, set, IfSome}
 use Rattle.std.proofs.lemmas.Bool.{cases_lt, cases_eq}
-use Rattle.std.proofs.lemmas.List.{get_or-set_other, get_or-set_same, length-set}
+use Rattle.std.proofs.lemmas.List.{get_or-set_other, length-set}
 use Rattle.std.proofs.lemmas.Option.{slice_get_within}
 use Rattle.frames.specs.Assignable.{type_answer}
 use Rattle.hierarchy.specs.Answer.{yes}
 use Rattle.type_numbers.specs.Decoding.{type_by}
 use Rattle.method_frames.specs.NumberedFrames.{NumberedFrame, NumberedFrames}
-use Rattle.blocks.specs.Rows.{IsFirstUnequal}
 use Rattle.verify.specs.declared.pass.representatives.Representative.{Representative}
 use Rattle.verify.specs.declared.pass.representatives.Representatives.{Representatives}
-use Rattle.verify.specs.private.pass.Representatives.{local_in, SharesBelow, IsLead, AreLeads, TakesLocal, AllTake, TakesChanges, IsChain, IsCommon, IsNamed, IsWithin, AreRepresentatives, IsPut}
+use Rattle.verify.specs.private.pass.Representatives.{SharesBelow, IsLead, TakesLocal, AllTake, TakesChanges, IsChain, IsCommon, IsNamed, IsWithin, AreRepresentatives, IsPut}
 
 -- ---- places of a list
 

@@ -1,5 +1,5 @@
 -- A frame that comes to the handlers of entries, by what changed since the frame was kept that came to them.
-use Rattle.std.proofs.Common.{◌≡◌, ◌⊎◌, ◌∙◌, ℕ, zero, suc, ◌+◌, ◌≤◌, ◌<◌, Bool, true, false, ◌||◌, ◌&&◌, if◌then◌else◌, List, [], ◌∷◌, ◌++◌, length, get_or, slice_get, Option, Some, None, refl, sym, ap, ap₂, subst, inl, inr, arith}
+use Rattle.std.proofs.Common.{◌≡◌, ◌⊎◌, ◌∙◌, ℕ, suc, ◌+◌, ◌≤◌, ◌<◌, Bool, true, false, ◌||◌, ◌&&◌, if◌then◌else◌, List, [], ◌∷◌, ◌++◌, length, get_or, slice_get, Some, None, refl, sym, ap, ap₂, subst, inl, inr, arith}
 use Rattle.std.specs.Prelude.{slice_index}
 use Rattle.std.specs.Bool.{beq}
 use Rattle.std.proofs.lemmas.Bool.{cases_lt}
@@ -25,7 +25,7 @@ use Rattle.verify.specs.declared.pass.handlers.Handler.{Handler}
 use Rattle.verify.specs.declared.pass.handlers.Handlers.{Handlers}
 use Rattle.verify.specs.declared.pass.representatives.Representatives.{Representatives}
 use Rattle.verify.specs.private.pass.Finding.{frame_in}
-use Rattle.verify.specs.private.pass.Following.{IsHandler, AreHandlers, IsTaken, Comes, IsOpen, IsSettled, AreBegunTaken, Follows, AreAhead, kept_frame}
+use Rattle.verify.specs.private.pass.Following.{IsHandler, IsTaken, Comes, IsOpen, IsSettled, AreBegunTaken, Follows, AreAhead, kept_frame}
 use Rattle.verify.specs.private.pass.Representatives.{TakesLocal, TakesChanges, AreRepresentatives}
 use Rattle.verify.proofs.numbered.Starting.{has_handler, covering_open, same_one}
 

@@ -1,6 +1,6 @@
 -- The entries of an exception table in the order in which their ranges begin.
-use Rattle.std.proofs.Common.{◌≡◌, ◌⊎◌, ◌∙◌, ℕ, zero, suc, ◌+◌, ◌≤◌, ◌<◌, Bool, true, false, List, [], ◌∷◌, length, get_or, slice_get, Option, Some, refl, sym, ap, subst, inl, inr, arith}
-use Rattle.std.specs.Prelude.{Contains, max}
+use Rattle.std.proofs.Common.{◌≡◌, ◌⊎◌, ◌∙◌, ℕ, zero, suc, ◌+◌, ◌≤◌, ◌<◌, Bool, true, false, List, [], ◌∷◌, get_or, slice_get, Some, refl, sym, ap, subst, inl, inr, arith}
+use Rattle.std.specs.Prelude.{max}
 use Rattle.std.specs.List.Sorted.{IsPermutation, IsNonDecreasingBy}
 use Rattle.std.proofs.lemmas.Bool.{cases_lt}
 use Rattle.std.proofs.lemmas.Option.{slice_get_within, get_or_from_slice_get, slice_get-get_or}
@@ -12,7 +12,7 @@ use Rattle.verify.specs.Verdict.{is_covered}
 use Rattle.verify.specs.declared.pass.handlers.Handler.{Handler}
 use Rattle.verify.specs.declared.pass.handlers.Handlers.{Handlers}
 use Rattle.verify.specs.private.pass.Representatives.{AreRepresentatives}
-use Rattle.verify.specs.private.pass.Following.{IsHandler, AreHandlers, IsOpen, HasReached, Follows, AreAhead}
+use Rattle.verify.specs.private.pass.Following.{IsHandler, AreHandlers, IsOpen, Follows, AreAhead}
 use Rattle.verify.proofs.numbered.Following.{has_entry, covered_by, covered_by_none, begun_covers, covered_starts, covered_ends}
 use Rattle.verify.proofs.numbered.Representing.{some_same}
 

@@ -262,8 +262,7 @@ impl Handlers {
                 if !comes(&handler, frames) {
                     return Ok(false);
                 }
-                self.representatives
-                    .add(handler.lead, handler.to, frames)?;
+                self.representatives.add(handler.lead, handler.to, frames)?;
             }
             self.settled += 1;
         }

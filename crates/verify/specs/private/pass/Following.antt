@@ -1,5 +1,5 @@
 -- The entries of an exception table while a pass goes over the code, their handlers by the places of their frames.
-use Rattle.std.specs.Prelude.{◌≡◌, ◌⊎◌, ℕ, ◌+◌, ◌≤◌, ◌<◌, Bool, true, pos, if◌then◌else◌, List, [], ◌∷◌, length, slice_get, slice_index, Option, Some, None}
+use Rattle.std.specs.Prelude.{◌≡◌, ◌⊎◌, ℕ, ◌≤◌, ◌<◌, Bool, pos, if◌then◌else◌, List, [], ◌∷◌, length, slice_get, slice_index, Some, None}
 use Rattle.std.specs.List.Sorted.{IsNonDecreasingBy, IsPermutation}
 use Rattle.classfile.specs.Methods.{ExceptionEntry, covers}
 use Rattle.hierarchy.specs.Class.{ClassFact}
@@ -19,7 +19,7 @@ use Rattle.verify.specs.Verdict.{one_handler}
 use Rattle.verify.specs.private.Catching.{caught_answer}
 use Rattle.verify.specs.declared.pass.handlers.Handler.{Handler}
 use Rattle.verify.specs.declared.pass.handlers.Handlers.{Handlers}
-use Rattle.verify.specs.private.pass.Finding.{frame_in, IsFound}
+use Rattle.verify.specs.private.pass.Finding.{IsFound}
 use Rattle.verify.specs.private.pass.Representatives.{IsLead, AreRepresentatives}
 
 -- ---- the table

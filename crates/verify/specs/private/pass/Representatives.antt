@@ -1,5 +1,5 @@
 -- Declared frames that stand for others, since they have the same locals.
-use Rattle.std.specs.Prelude.{◌≡◌, ◌⊎◌, ℕ, ◌+◌, ◌≤◌, ◌<◌, List, [], ◌∷◌, ◌++◌, length, slice_get, slice_index, Option, Some}
+use Rattle.std.specs.Prelude.{◌≡◌, ◌⊎◌, ℕ, ◌+◌, ◌≤◌, ◌<◌, List, [], ◌∷◌, ◌++◌, length, slice_get, slice_index, Some}
 use Rattle.hierarchy.specs.Answer.{yes}
 use Rattle.frames.specs.Assignable.{type_answer}
 use Rattle.type_numbers.specs.Numbers.{Numbering}

@@ -1,4 +1,4 @@
-use Rattle.std.proofs.Common.{◌≡◌, ◌∙◌, ◌++◌, [], map, option_to_list, List, ℕ, sym, ap, subst}
+use Rattle.std.proofs.Common.{◌≡◌, ◌∙◌, ◌++◌, map, option_to_list, List, ℕ, sym, ap, subst}
 use Rattle.classfile.specs.CodeMethods.{types_of}
 use Rattle.classfile.specs.Methods.{receiver_of}
 use Rattle.frames.specs.Slots.{descriptor_type}

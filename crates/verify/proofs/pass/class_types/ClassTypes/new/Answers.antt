@@ -1,4 +1,4 @@
-use Rattle.std.proofs.Common.{option_map, subst}
+use Rattle.std.proofs.Common.{subst}
 use Rattle.classfile.specs.Methods.{superclass_of}
 use Rattle.type_numbers.proofs.LawsOfNumbers.{extends_on}
 use Rattle.type_numbers.proofs.Tables.{table_stays}

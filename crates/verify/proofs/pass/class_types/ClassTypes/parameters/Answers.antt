@@ -1,4 +1,4 @@
-use Rattle.std.proofs.Common.{◌≡◌, ◌∙◌, Some, None, sym}
+use Rattle.std.proofs.Common.{◌∙◌, None, sym}
 use Rattle.std.specs.Prelude.{slice_index_or}
 use Rattle.classfile.specs.CodeMethods.{types_of}
 use Rattle.type_numbers.specs.MethodNumbers.{row_of}

@@ -1,4 +1,4 @@
-use Rattle.std.proofs.Common.{◌∙◌, sym, refl, arith}
+use Rattle.std.proofs.Common.{◌∙◌, sym}
 use Rattle.numbered_rules.specs.Held.{held}
 use Rattle.verify.proofs.numbered.Settling.{unchanged, none_against_all, none_covered}
 use Rattle.verify.proofs.pass.handlers.Handlers.are_idle.Goals as goal

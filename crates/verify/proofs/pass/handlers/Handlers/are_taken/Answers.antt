@@ -1,6 +1,4 @@
-use Rattle.std.proofs.Common.{List, refl}
-use Rattle.classfile.specs.Methods.{ExceptionEntry}
-use Rattle.verify.specs.private.pass.Following.{Follows}
+use Rattle.std.proofs.Common.{refl}
 use Rattle.verify.proofs.numbered.Settling.{follows_dropped}
 use Rattle.verify.proofs.pass.handlers.Handlers.are_taken.Goals as goal
 

@@ -1,4 +1,4 @@
-use Rattle.std.proofs.Common.{◌≡◌, ◌∙◌, ℕ, ◌+◌, ◌<◌, List, length, Some, slice_get, refl, sym, ap, subst, arith}
+use Rattle.std.proofs.Common.{◌≡◌, ◌∙◌, ℕ, ◌+◌, ◌<◌, List, length, refl, sym, ap, subst, arith}
 use Rattle.std.proofs.lemmas.Option.{slice_get_read}
 use Rattle.classfile.specs.Methods.{ExceptionEntry}
 use Rattle.method_frames.specs.NumberedFrames.{NumberedFrames}
@@ -52,8 +52,7 @@ loop-self-preserved g c =
       | then-at-handler+else-not-comes+in_ok-add w ↦
           (let same = w.comes.ensures.same ∙ c.loop-self.invariant.same in
           let added = w.in_ok-add.ensures in
-          let comes = subst (λ (z : NumberedFrames). Comes z (held z) one) c.loop-self.invariant.same (w.comes.ensures.taken w.if-not-comes.false) in
-          (
+          let comes = subst (λ (z : NumberedFrames). Comes z (held z) one) c.loop-self.invariant.same (w.comes.ensures.taken w.if-not-comes.false) in (
             w.frames-is ∙ same,
             subst (Goes x at start) (sym w.self-is) (record {
               flag = c.loop-self.invariant.flag;
@@ -64,19 +63,18 @@ loop-self-preserved g c =
                   (λ other there lasts. settled_one x h one other w.add.new.self c.index.ensures there added.added (kept_comes x h.flag one c.requires.kept (c.loop-self.invariant.flag ∙ c.requires.flag) comes)) now;
             }),
           ))
-      | else-at-handler w ↦
-          (
-            w.frames-is ∙ c.loop-self.invariant.same,
-            subst (Goes x at start) (sym w.self-is) (record {
-              flag = c.loop-self.invariant.flag;
-              ahead = c.loop-self.invariant.ahead;
-              follows = λ es k.
-                  let now = c.loop-self.invariant.follows es k in
-                  let past = w.if-at-handler.false in
-                  follows_settled x es at h h.representatives (h.settled + 1) refl c.loop-self-test.true now.representatives (λ f. omega arith)
-                  (λ other there lasts. absurd (let to = ap (λ (z : Handler). z.to) (same_one h.by_start.items h.settled one other c.index.ensures there) in omega (arith, lasts, to, past))) now;
-            }),
-          )
+      | else-at-handler w ↦ (
+        w.frames-is ∙ c.loop-self.invariant.same,
+        subst (Goes x at start) (sym w.self-is) (record {
+          flag = c.loop-self.invariant.flag;
+          ahead = c.loop-self.invariant.ahead;
+          follows = λ es k.
+              let now = c.loop-self.invariant.follows es k in
+              let past = w.if-at-handler.false in
+              follows_settled x es at h h.representatives (h.settled + 1) refl c.loop-self-test.true now.representatives (λ f. omega arith)
+              (λ other there lasts. absurd (let to = ap (λ (z : Handler). z.to) (same_one h.by_start.items h.settled one other c.index.ensures there) in omega (arith, lasts, to, past))) now;
+        }),
+      )
     ] in
     record { same = both.0; flag = both.1.flag; ahead = both.1.ahead; follows = both.1.follows }
 

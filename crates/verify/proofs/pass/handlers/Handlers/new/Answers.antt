@@ -1,4 +1,4 @@
-use Rattle.std.proofs.Common.{rules, ◌≡◌, List, ◌∙◌, subst, refl}
+use Rattle.std.proofs.Common.{rules, ◌∙◌, subst, refl}
 use Rattle.std.specs.List.Sorted.{IsPermutation}
 use Rattle.std.proofs.lemmas.List.Sorted.{IsNonDecreasingBy-from_sort_by_key}
 use Rattle.verify.specs.declared.pass.handlers.Handler.{Handler}

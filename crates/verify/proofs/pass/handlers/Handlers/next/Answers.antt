@@ -1,6 +1,5 @@
-use Rattle.std.proofs.Common.{◌≡◌, ◌∙◌, Some, length, slice_get, refl, sym, ap, subst, arith}
-use Rattle.std.proofs.lemmas.Option.{slice_get_read, slice_get_within, get_or_from_slice_get}
-use Rattle.verify.specs.declared.pass.handlers.Handler.{Handler}
+use Rattle.std.proofs.Common.{length, refl, arith}
+use Rattle.std.proofs.lemmas.Option.{slice_get_read}
 use Rattle.verify.proofs.numbered.Starting.{later_starts}
 use Rattle.verify.proofs.pass.handlers.Handlers.next.Goals as goal
 
@@ -12,8 +11,7 @@ returns-then-handler-at c = λ x es before k place one behind there.
 
 pub returns : goal.returns
 returns c =
-    let h = c.args.self.now in
-    (
+    let h = c.args.self.now in (
       slice_get_read h.by_start.items (length h.by_start.items) h.begun c.index-handler.result.now refl (omega (arith, c.if-self-len.false, c.len.ensures, h.by_start.ok.0)) c.index-handler.ensures,
       omega (arith, c.if-handler-at.false),
     )

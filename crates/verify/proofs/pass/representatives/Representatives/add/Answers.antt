@@ -1,4 +1,4 @@
-use Rattle.std.proofs.Common.{◌≡◌, ◌<◌, ◌∙◌, length, refl, sym, ap, subst, arith}
+use Rattle.std.proofs.Common.{◌<◌, length, refl, sym, subst, arith}
 use Rattle.std.proofs.lemmas.List.{get_or_read}
 use Rattle.verify.specs.declared.pass.representatives.Representatives.{Representatives}
 use Rattle.verify.specs.private.pass.Representatives.{IsNamed, AreRepresentatives}
@@ -21,9 +21,9 @@ returns-clause-representatives g c =
           (let put = w.in_ok-put.ensures in
           let fits = last_fits ds old.list.items w.copied.result w.shared_with-shared.result frame (last_of w.deref.result.now old.list.items w.copied.result _ w.copied.ensures w.last.ensures.value w.deref.ensures.value) w.shared_with-shared.ensures in
           subst (λ (rs : Representatives). AreRepresentatives ds rs × IsNamed rs.list.items frame × (frame < length rs.until.items)) (sym w.self-is)
-              (with_put ds wide w.put.new.self frame w.shared_with-shared.result are put c.requires.frame room fits, put_last ds wide w.put.new.self frame w.shared_with-shared.result put, subst (λ u. frame < length u.items) (sym put.until) room))
+          (with_put ds wide w.put.new.self frame w.shared_with-shared.result are put c.requires.frame room fits, put_last ds wide w.put.new.self frame w.shared_with-shared.result put, subst (λ u. frame < length u.items) (sym put.until) room))
       | else-until-eq0 w ↦
           subst (λ (rs : Representatives). AreRepresentatives ds rs × IsNamed rs.list.items frame × (frame < length rs.until.items)) (sym w.self-is)
-              (are, are.named frame (let is = get_or_read until.items frame c.index-until.result.now room c.index-until.ensures 0 in let other = w.if-until-eq0.false in omega (arith, is, other)), room)
+          (are, are.named frame (let is = get_or_read until.items frame c.index-until.result.now room c.index-until.ensures 0 in let other = w.if-until-eq0.false in omega (arith, is, other)), room)
     ] in
     with_until ds mid _ frame c.max.result both.0 both.1 both.2 refl refl refl

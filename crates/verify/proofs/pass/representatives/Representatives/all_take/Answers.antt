@@ -1,5 +1,5 @@
-use Rattle.std.proofs.Common.{◌∙◌, length, refl, inl, inr, arith}
-use Rattle.std.proofs.lemmas.Option.{slice_get_read, slice_get_within}
+use Rattle.std.proofs.Common.{length, refl, inl, inr, arith}
+use Rattle.std.proofs.lemmas.Option.{slice_get_read}
 use Rattle.verify.proofs.numbered.Representing.{take_more, take_all, not_first}
 use Rattle.verify.proofs.pass.representatives.Representatives.all_take.Goals as goal
 

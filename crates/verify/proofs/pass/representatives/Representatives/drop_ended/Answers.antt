@@ -1,10 +1,8 @@
 use Rattle.std.proofs.Common.{◌≡◌, ◌<◌, ◌≤◌, ◌+◌, ◌∙◌, ◌++◌, ℕ, List, [], Some, length, get_or, slice_get, refl, sym, ap, subst, arith}
 use Rattle.std.proofs.lemmas.List.{get_or_read}
 use Rattle.std.proofs.lemmas.Option.{slice_get_read}
-use Rattle.method_frames.specs.NumberedFrames.{NumberedFrame}
 use Rattle.verify.specs.declared.pass.representatives.Representative.{Representative}
 use Rattle.verify.specs.declared.pass.representatives.Representatives.{Representatives}
-use Rattle.verify.specs.private.pass.Representatives.{AreRepresentatives}
 use Rattle.verify.proofs.numbered.Dropping.{Dropping, dropping_first, dropping_kept, dropping_ended, dropped, lasting}
 use Rattle.verify.proofs.pass.representatives.Representatives.drop_ended.Goals as goal
 use Rattle.verify.proofs.pass.representatives.Representatives.drop_ended.Goals.{then-at-index+in_ok-put, else-at-index}
