@@ -7,6 +7,7 @@ pub mod Running
 pub mod Representing
 pub mod Dropping
 pub mod Starting
+pub mod Refusing
 pub mod Settling
 pub mod Maps
 pub mod TableEntries

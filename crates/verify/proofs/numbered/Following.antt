@@ -1,10 +1,11 @@
 -- The entries of an exception table while a pass goes over the code.
-use Rattle.std.proofs.Common.{◌≡◌, ◌∙◌, ℕ, zero, suc, ◌+◌, ◌≤◌, ◌<◌, Bool, true, false, ◌||◌, nat_lt, nat_le, ◌&&◌, List, [], ◌∷◌, ◌++◌, length, get_or, slice_get, drop, Option, Some, None, Result, Ok, if◌then◌else◌, refl, sym, ap, subst, arith}
+use Rattle.std.proofs.Common.{◌≡◌, ◌≢◌, ◌∙◌, ℕ, zero, suc, ◌+◌, ◌≤◌, ◌<◌, Bool, true, false, ◌||◌, nat_lt, nat_le, ◌&&◌, List, [], ◌∷◌, length, get_or, slice_get, drop, Option, Some, None, Result, Ok, if◌then◌else◌, refl, sym, ap, subst, arith}
 use Rattle.std.proofs.lemmas.Bool.Decides.{nat_tests}
-use Rattle.std.proofs.lemmas.List.{append_assoc, append-nil}
 use Rattle.classfile.specs.Methods.{ExceptionEntry, covers}
 use Rattle.hierarchy.specs.Class.{ClassFact}
-use Rattle.hierarchy.specs.Answer.{Outcome, yes, no, missing}
+use Rattle.hierarchy.specs.Answer.{Outcome, yes, no, missing, outcome_of}
+use Rattle.hierarchy.specs.declared.answer.Answer.{Answer}
+use Rattle.hierarchy.specs.declared.answer.Answer.TheVariants.{Yes, No, Missing}
 use Rattle.insn.specs.Offsets.{at_offset}
 use Rattle.frames.specs.FrameFact.{FrameFact}
 use Rattle.frames.specs.Slots.{to_reference}
@@ -20,8 +21,8 @@ use Rattle.numbered_rules.specs.Held.{held}
 use Rattle.rules.specs.After.{with_stack}
 use Rattle.rules.specs.Outcomes.{Judges}
 use Rattle.verify.specs.TypeSafety.{Frames, caught_frame}
-use Rattle.verify.specs.Verdict.{answer_conditions, one_handler, handler_conditions, is_covered}
-use Rattle.verify.specs.private.Catching.{answer_at}
+use Rattle.verify.specs.Verdict.{answer_conditions, one_handler, is_covered}
+use Rattle.verify.specs.private.Catching.{answer_at, caught_answer}
 use Rattle.verify.specs.declared.pass.handlers.Handler.{Handler}
 use Rattle.verify.specs.private.pass.Following.{IsHandler, AreHandlers, IsTaken, one_handler_at}
 
@@ -65,40 +66,6 @@ module _ (s : Numbering) (ds : List (ℕ × NumberedFrame)) where
   as_many [] (h ∷ hs) a = absurd a
   as_many (e ∷ es) [] a = absurd a
   as_many (e ∷ es) (h ∷ hs) a = ap suc (as_many es hs a.1)
-
--- ---- the conditions of entries
-
-module _ (classes : List ClassFact) (frames : Frames) where
-  abbrev all : ℕ → FrameFact → List ExceptionEntry → Conditions
-  all at f es = handler_conditions classes frames at f es
-
-  -- some entries are judged, and these are left
-  pub record Judged (at : ℕ) (f : FrameFact) (es left : List ExceptionEntry) (r : Result Unit Reason) : Type 0 where
-    pub done : Conditions
-    pub parts : done ++ all at f left ≡ all at f es
-    pub judged : Judges done r
-
-  pub judged_first : (at : ℕ) (f : FrameFact) (es : List ExceptionEntry) (u : Unit {0}) → Judged at f es es (Ok u)
-  judged_first at f es u = record { done = []; parts = refl; judged = record { outcome = refl } }
-
-  pub judged_next : (at : ℕ) (f : FrameFact) (es left others : List ExceptionEntry) (e : ExceptionEntry) (r o t : Result Unit Reason) → left ≡ e ∷ others → Judged at f es left r
-      → Judges (one_handler_at classes frames at f e) o → ((cs ds : Conditions) → Judges cs r → Judges ds o → Judges (cs ++ ds) t) → Judged at f es others t
-  judged_next at f es left others e r o t q k j together = record {
-    done = k.done ++ one_handler_at classes frames at f e;
-    parts = append_assoc k.done (one_handler_at classes frames at f e) (all at f others) ∙ ap (λ xs. k.done ++ all at f xs) (sym q) ∙ k.parts;
-    judged = together k.done (one_handler_at classes frames at f e) k.judged j;
-  }
-
-  pub judged_all : (at : ℕ) (f : FrameFact) (es : List ExceptionEntry) (r : Result Unit Reason) → Judged at f es [] r → Judges (all at f es) r
-  judged_all at f es r k = subst (λ cs. Judges cs r) (sym (append-nil k.done) ∙ k.parts) k.judged
-
-  -- they depend on the locals and the flag alone
-  pub same_beneath : (at : ℕ) (f g : FrameFact) (es : List ExceptionEntry) → f.locals ≡ g.locals → f.flag ≡ g.flag → all at f es ≡ all at g es
-  same_beneath at f g [] l b = refl
-  same_beneath at f g (e ∷ es) l b =
-      ap (λ xs. one_handler_at classes frames at (record { locals = xs; stack = f.stack; flag = f.flag }) e ++ all at f es) l
-      ∙ ap (λ z. one_handler_at classes frames at (record { locals = g.locals; stack = f.stack; flag = z }) e ++ all at f es) b
-      ∙ ap (λ cs. one_handler_at classes frames at g e ++ cs) (same_beneath at f g es l b)
 
 -- ---- whether an entry covers an offset
 
@@ -161,13 +128,24 @@ covering x at e h is b o told r j = subst (λ cs. Judges cs r) (sym all) j
         ∙ ap (λ d. one_handler classes d (caught_frame e (held x))) is.frame.place.declared
         ∙ ap (answer_conditions 73) (sym told_by)
 
+-- that is the answer about the entry
+pub caught_is : (x : NumberedFrames) (e : ExceptionEntry) (h : Handler) → IsHandler x.types x.declared e h
+    → caught_answer x.types.classes (frames_by x.types x.declared) (held x) e
+    ≡ frame_answer x.types.classes (frame_by x.types (record x.running { stack = h.caught ∷ [] })) (frame_by x.types (declared_frame x h.frame))
+caught_is x e h is =
+    let type_is : type_by x.types h.caught ≡ to_reference e.caught = number_read x.types h.caught (to_reference e.caught) is.caught in
+    ap (λ d. answer_at x.types.classes d (caught_frame e (held x))) is.frame.place.declared
+    ∙ sym (ap (λ t. frame_answer x.types.classes (with_stack (held x) (t ∷ [])) (frame_by x.types (declared_frame x h.frame))) type_is)
+
+pub not_no : (answer : Answer) → (answer ≡ No → ⊥) → outcome_of answer ≢ no
+not_no Yes h e = cc
+not_no No h e = h refl
+not_no (Missing name) h e = cc
+
 -- and it comes to the handler where that is yes
 pub comes_by : (x : NumberedFrames) (e : ExceptionEntry) (h : Handler) → IsHandler x.types x.declared e h
     → frame_answer x.types.classes (frame_by x.types (record x.running { stack = h.caught ∷ [] })) (frame_by x.types (declared_frame x h.frame)) ≡ yes → IsTaken x.types x.declared (held x) e
-comes_by x e h is told =
-    let type_is : type_by x.types h.caught ≡ to_reference e.caught = number_read x.types h.caught (to_reference e.caught) is.caught in
-    ap (λ d. answer_at x.types.classes d (caught_frame e (held x))) is.frame.place.declared
-    ∙ sym (ap (λ t. frame_answer x.types.classes (with_stack (held x) (t ∷ [])) (frame_by x.types (declared_frame x h.frame))) type_is) ∙ told
+comes_by x e h is told = caught_is x e h is ∙ told
 
 -- ---- where an entry covers
 

@@ -1,5 +1,5 @@
 //! The exception handlers of a method, while a pass goes over its code (JVMS 4.10.1.6).
-ghost use Rattle.std.specs.Prelude.{◌≡◌, ◌≤◌, ℕ, None, Some, List, slice_get, IsTrue, IfOk, OnOk, MatchOption};
+ghost use Rattle.std.specs.Prelude.{◌≡◌, ◌≤◌, ℕ, false, None, Some, List, slice_get, IsTrue, IfOk, OnOk, MatchOption};
 ghost use Rattle.classfile.specs.Methods.{ExceptionEntry, covers};
 ghost use Rattle.frames.specs.Conditions.{least};
 ghost use Rattle.type_numbers.specs.Numbers.{Numbering};
@@ -8,13 +8,13 @@ ghost use Rattle.method_frames.specs.MapFrames.{frames_by};
 ghost use Rattle.numbered_rules.specs.Held.{held};
 ghost use Rattle.rules.specs.Outcomes.{Judges};
 ghost use Rattle.verify.specs.Verdict.{handler_conditions, is_covered};
-ghost use Rattle.verify.specs.private.pass.Following.{IsHandler, AreHandlers, IsTaken, IsUnchanged, AreBegunTaken, Follows, AreAhead, one_handler_at};
+ghost use Rattle.verify.specs.private.pass.Following.{IsHandler, AreHandlers, IsTaken, IsUnchanged, Refuses, IsFree, AreOf, AreBegunTaken, Follows, AreAhead, one_handler_at};
 
 use crate::flow::check_answer;
 use crate::pass::representatives::Representatives;
 use hierarchy::{Answer, Classes};
 use method_frames::MethodFrames;
-use rules::{Reason, together};
+use rules::Reason;
 use std::alloc::{AllocError, Global};
 
 /// An entry of an exception table (JVMS 4.7.3).
@@ -59,8 +59,69 @@ fn check_handler<'n, C: Classes>(
     check_answer(answer, Reason::HandlerNotAssignable)
 }
 
-/// The frame before an instruction comes to the handler of each entry that covers the instruction.
+/// Whether an entry covers an instruction, and the frame before that may not stand at the handler, with what the entry
+/// catches alone on its stack: whatever classes there are.
+fn refuses<C: Classes>(at: u16, handler: &Handler, frames: &mut MethodFrames<'_, '_, '_, C>) -> bool
+    requires { (e : ExceptionEntry) × IsHandler frames.old.types frames.old.declared e handler.now }
+    ensures same { frames.new ≡ frames.old }
+    ensures refused { IsTrue result → Refuses frames.old at handler.now }
+    ensures free { result ≡ false → IsFree frames.old at handler.now }
+{
+    if !covers(at, handler) {
+        return false;
+    }
+    matches!(
+        frames.answer_caught(handler.frame, handler.caught),
+        Answer::No
+    )
+}
+
+/// Whether one of these entries refuses an instruction.
+fn any_refuses<C: Classes>(
+    at: u16,
+    handlers: &[Handler],
+    frames: &mut MethodFrames<'_, '_, '_, C>,
+) -> bool
+    requires { (es : List ExceptionEntry) × AreOf frames.old es handlers.now }
+    ensures same { frames.new ≡ frames.old }
+    ensures refused { IsTrue result → (k : ℕ) × (h : Handler) × (slice_get handlers.now k ≡ Some h)
+        × Refuses frames.old at h }
+    ensures free { result ≡ false → (k : ℕ) (h : Handler) → slice_get handlers.now k ≡ Some h
+        → IsFree frames.old at h }
+{
+    for i in 0..handlers.len() {
+        if refuses(at, &handlers[i], frames) {
+            return true;
+        }
+    }
+    false
+}
+
+/// The frame before an instruction comes to the handler of each entry that covers the instruction, up to the first one for
+/// which a class is missing. No entry refuses the instruction.
+fn check_in_turn<'n, C: Classes>(
+    at: u16,
+    table: &[Handler],
+    frames: &mut MethodFrames<'_, '_, 'n, C>,
+) -> Result<(), Reason<'n>>
+    requires { (es : List ExceptionEntry) × AreHandlers frames.old.types frames.old.declared es table.now }
+    ensures same { frames.new ≡ frames.old }
+    ensures judged { let x = frames.old in (es : List ExceptionEntry) → AreHandlers x.types x.declared es table.now
+        → ((k : ℕ) (h : Handler) → slice_get table.now k ≡ Some h → IsFree x at h)
+        → Judges (handler_conditions x.types.classes (frames_by x.types x.declared) at (held x) es) result }
+{
+    for i in 0..table.len() {
+        check_handler(at, &table[i], frames)?;
+    }
+    Ok(())
+}
+
+/// The frame before an instruction comes to the handler of each entry that covers the instruction: 73 and 77 by their
+/// comparison, 77 by the first of these entries.
+///
+/// Frames that were declared in turn have much in common, so that they are compared in this order for 73.
 fn check_handlers<'n, C: Classes>(
+    alloc: Global,
     at: u16,
     table: &[Handler],
     frames: &mut MethodFrames<'_, '_, 'n, C>,
@@ -70,11 +131,12 @@ fn check_handlers<'n, C: Classes>(
     ensures judged { let x = frames.old in (es : List ExceptionEntry) → AreHandlers x.types x.declared es table.now
         → Judges (handler_conditions x.types.classes (frames_by x.types x.declared) at (held x) es) result }
 {
-    let mut so_far = Ok(());
-    for i in 0..table.len() {
-        so_far = together(so_far, check_handler(at, &table[i], frames));
+    let mut by_frame = copied(alloc, table)?;
+    by_frame.sort_by_key(|handler| handler.frame)?;
+    if any_refuses(at, &by_frame, frames) {
+        return Err(Reason::HandlerNotAssignable);
     }
-    so_far
+    check_in_turn(at, table, frames)
 }
 
 /// Whether the running frame, with what an entry catches alone on its stack, may stand for the frame at its handler.
@@ -112,6 +174,7 @@ fn copied(alloc: Global, table: &[Handler]) -> Result<Vec<Handler>, AllocError>
 /// cover it; with the others only by the local variables that changed, and once for all whose frames have the same locals.
 #[derive(Drop)]
 pub struct Handlers {
+    alloc: Global,
     // The entries, in the order of the exception table.
     table: Vec<Handler>,
     // All entries, in the order in which their ranges begin.
@@ -137,6 +200,7 @@ impl Handlers {
         let mut by_start = copied(alloc, &table)?;
         by_start.sort_by_key(|handler| handler.from)?;
         Ok(Handlers {
+            alloc,
             table,
             by_start,
             begun: 0,
@@ -312,6 +376,6 @@ impl Handlers {
         if self.settle(at, frames)? {
             return Ok(());
         }
-        check_handlers(at, &self.table, frames)
+        check_handlers(self.alloc, at, &self.table, frames)
     }
 }

@@ -1,9 +1,9 @@
 -- The entries of an exception table while a pass goes over the code, their handlers by the places of their frames.
-use Rattle.std.specs.Prelude.{◌≡◌, ◌⊎◌, ℕ, ◌≤◌, ◌<◌, Bool, pos, if◌then◌else◌, List, [], ◌∷◌, length, slice_get, slice_index, Some, None}
+use Rattle.std.specs.Prelude.{◌≡◌, ◌≢◌, ◌⊎◌, ℕ, ◌≤◌, ◌<◌, Bool, true, pos, if◌then◌else◌, List, [], ◌∷◌, length, slice_get, slice_index, Some, None}
 use Rattle.std.specs.List.Sorted.{IsNonDecreasingBy, IsPermutation}
 use Rattle.classfile.specs.Methods.{ExceptionEntry, covers}
 use Rattle.hierarchy.specs.Class.{ClassFact}
-use Rattle.hierarchy.specs.Answer.{yes}
+use Rattle.hierarchy.specs.Answer.{yes, no}
 use Rattle.insn.specs.Offsets.{at_offset}
 use Rattle.frames.specs.FrameFact.{FrameFact}
 use Rattle.frames.specs.Slots.{to_reference}
@@ -48,6 +48,21 @@ one_handler_at classes frames at f e =
 -- a frame that comes to an entry's handler may stand there
 abbrev pub IsTaken : Numbering → List (ℕ × NumberedFrame) → FrameFact → ExceptionEntry → Type 0
 IsTaken s ds f e = caught_answer s.classes (frames_by s ds) f e ≡ yes
+
+-- an entry covers an offset, and the running frame may not stand at its handler, whatever classes there are
+abbrev pub Refuses : NumberedFrames → ℕ → Handler → Type 0
+Refuses x at h = (e : ExceptionEntry) → IsHandler x.types x.declared e h
+    → (covers e at ≡ true) × (caught_answer x.types.classes (frames_by x.types x.declared) (held x) e ≡ no)
+
+-- it does not
+abbrev pub IsFree : NumberedFrames → ℕ → Handler → Type 0
+IsFree x at h = (e : ExceptionEntry) → IsHandler x.types x.declared e h → covers e at ≡ true
+    → caught_answer x.types.classes (frames_by x.types x.declared) (held x) e ≢ no
+
+-- each is that of an entry of a table
+abbrev pub AreOf : NumberedFrames → List ExceptionEntry → List Handler → Type 0
+AreOf x es hs = (k : ℕ) (h : Handler) → slice_get hs k ≡ Some h
+    → (n : ℕ) × (e : ExceptionEntry) × (slice_get es n ≡ Some e) × IsHandler x.types x.declared e h
 
 -- the locals that were kept, in a frame with nothing on its stack
 abbrev pub kept_frame : NumberedFrames → Bool → FrameFact

@@ -1,48 +1,30 @@
-use Rattle.std.proofs.Common.{◌∙◌, ◌+◌, drop, get_or, refl, sym, subst, arith}
-use Rattle.std.proofs.lemmas.List.{drop_all}
+use Rattle.std.proofs.Common.{sym, subst}
+use Rattle.std.specs.List.Sorted.{IsPermutation}
 use Rattle.method_frames.specs.NumberedFrames.{NumberedFrames}
-use Rattle.method_frames.specs.MapFrames.{frames_by}
-use Rattle.numbered_rules.specs.Held.{held}
-use Rattle.rules.specs.Outcomes.{Judges}
-use Rattle.verify.specs.private.pass.Following.{IsHandler, one_handler_at}
-use Rattle.verify.proofs.numbered.Following.{Judged, no_handler, has_entry, as_many, judged_first, judged_next, judged_all}
+use Rattle.verify.specs.private.pass.Following.{AreHandlers}
+use Rattle.verify.proofs.numbered.Refusing.{of_table, free_moved, refuses_all, judged_on}
 use Rattle.verify.proofs.pass.handlers.check_handlers.Goals as goal
 
-pub loop-i-init : goal.loop-i-init
-loop-i-init g c = record {
-  same = refl;
-  judged = λ es a.
-      let start = c.args.frames.now in
-      judged_first start.types.classes (frames_by start.types start.declared) c.args.at (held start) es tt;
-}
+pub any_refuses-requires : goal.any_refuses-requires
+any_refuses-requires g c =
+    let x = c.args.frames.now in
+    let moved = subst (IsPermutation c.args.table.now) (sym c.deref.ensures.value) (subst (λ xs. IsPermutation xs c.sort_by_key.new.self.items) c.in_ok-by_frame.ensures c.in_ok-sort_by_key.ensures.permutation) in
+    (c.requires.0, of_table x c.args.at c.requires.0 c.args.table.now c.deref.result.now c.requires.1 moved)
 
-pub check_handler-requires : goal.check_handler-requires
-check_handler-requires g c =
-    let start = c.args.frames.now in
-    let one = has_entry start.types start.declared c.requires.0 c.args.table.now c.loop-i.i no_handler c.requires.1 c.loop-i-test.true in
-    (one.entry, subst (λ (x : NumberedFrames). IsHandler x.types x.declared one.entry (get_or c.args.table.now c.loop-i.i no_handler)) (sym c.loop-i.invariant.same) one.is)
+pub returns-then-any_refuses-clause-judged : goal.returns-then-any_refuses-clause-judged
+returns-then-any_refuses-clause-judged g c = λ es a.
+    let x = c.args.frames.now in
+    let moved = subst (IsPermutation c.args.table.now) (sym c.deref.ensures.value) (subst (λ xs. IsPermutation xs c.sort_by_key.new.self.items) c.in_ok-by_frame.ensures c.in_ok-sort_by_key.ensures.permutation) in
+    let r = c.any_refuses.ensures.refused c.if-any_refuses.true in
+    let one = of_table x c.args.at es c.args.table.now c.deref.result.now a moved r.0 r.1 r.2 in
+    refuses_all x c.args.at es one.0 one.1 r.1 one.2 one.3 r.3
 
-pub loop-i-preserved : goal.loop-i-preserved
-loop-i-preserved g c =
-    let start = c.args.frames.now in
-    let s = start.types in
-    let ds = start.declared in
-    let i = c.loop-i.i in
-    record {
-      same = c.check_handler.ensures.same ∙ c.loop-i.invariant.same;
-      judged = λ es a.
-          let one = has_entry s ds es c.args.table.now i no_handler a c.loop-i-test.true in
-          let here = subst (λ (x : NumberedFrames). IsHandler x.types x.declared one.entry (get_or c.args.table.now i no_handler) → Judges (one_handler_at x.types.classes (frames_by x.types x.declared) c.args.at (held x) one.entry) c.check_handler.result)
-          c.loop-i.invariant.same (c.check_handler.ensures.judged one.entry) one.is in
-          judged_next s.classes (frames_by s ds) c.args.at (held start) es (drop i es) (drop (i + 1) es) one.entry c.loop-i.so_far c.check_handler.result c.together-so_far.result one.here
-          (c.loop-i.invariant.judged es a) here c.together-so_far.ensures.judged;
-    }
+pub check_in_turn-requires : goal.check_in_turn-requires
+check_in_turn-requires g c = (c.requires.0, subst (λ (z : NumberedFrames). AreHandlers z.types z.declared c.requires.0 c.args.table.now) (sym c.any_refuses.ensures.same) c.requires.1)
 
 pub returns-clause-judged : goal.returns-clause-judged
 returns-clause-judged g c = λ es a.
-    let start = c.args.frames.now in
-    let s = start.types in
-    let ds = start.declared in
-    let all = as_many s ds es c.args.table.now a in
-    judged_all s.classes (frames_by s ds) c.args.at (held start) es c.loop-i.so_far
-    (subst (λ xs. Judged s.classes (frames_by s ds) c.args.at (held start) es xs c.loop-i.so_far) (drop_all c.loop-i.i es (omega (arith, c.loop-i-test.false, all))) (c.loop-i.invariant.judged es a))
+    let x = c.args.frames.now in
+    let moved = subst (IsPermutation c.args.table.now) (sym c.deref.ensures.value) (subst (λ xs. IsPermutation xs c.sort_by_key.new.self.items) c.in_ok-by_frame.ensures c.in_ok-sort_by_key.ensures.permutation) in
+    let free = free_moved x c.args.at c.args.table.now c.deref.result.now moved (c.any_refuses.ensures.free c.if-any_refuses.false) in
+    judged_on x c.any_refuses.new.frames c.any_refuses.ensures.same c.args.at es c.args.table.now c.check_in_turn.result a free c.check_in_turn.ensures.judged

@@ -6,7 +6,7 @@ use Rattle.verify.proofs.numbered.Settling.{kept_follows}
 use Rattle.verify.proofs.pass.handlers.Handlers.keep.Goals as goal
 
 abbrev with_flag : Handlers → Bool → Handlers
-with_flag h f = record { table = h.table; by_start = h.by_start; begun = h.begun; settled = h.settled; reach = h.reach; flag = f; representatives = h.representatives }
+with_flag h f = record h { flag = f }
 
 pub returns-clause-followed : goal.returns-clause-followed
 returns-clause-followed g c = λ es k taken.
