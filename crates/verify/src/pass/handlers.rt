@@ -198,6 +198,8 @@ impl Handlers {
             → IfOk result (Follows x es 0) }
     {
         let mut by_start = copied(alloc, &table)?;
+        // Ranges that begin at one offset are in the order of the frames at their handlers, which have more in common so.
+        by_start.sort_by_key(|handler| handler.frame)?;
         by_start.sort_by_key(|handler| handler.from)?;
         Ok(Handlers {
             alloc,
