@@ -6,13 +6,19 @@ from class_bytes import POOL, class_file, handler, method, stack_map
 
 RETURN, NOP, ICONST_0 = b"\xb1", b"\x00", b"\x03"
 INT = b"\x01"
-OWN, MISSING = b"\x07" + struct.pack(">H", 1), b"\x07" + struct.pack(">H", POOL + 2)  # behind the one name of a method and that of Y
+OWN, OBJECT = b"\x07" + struct.pack(">H", 1), b"\x07" + struct.pack(">H", 3)
+MISSING = b"\x07" + struct.pack(">H", POOL + 2)  # behind the one name of a method and that of Y
 TOP_ON_STACK, APPEND_INT, CHOP_ONE = b"\x40\x00", b"\xfc\x00\x00\x01", b"\xfa\x00\x00"
 
 
 def full_frame(delta, first, locals_given, stack_given=b""):
     """An entry that gives so many locals: this type, and ints behind it."""
     return b"\xff" + struct.pack(">HH", delta, locals_given) + first + INT * (locals_given - 1) + struct.pack(">H", len(stack_given)) + stack_given
+
+
+def all_of(delta, locals_given, stack_given=b""):
+    """An entry that gives all locals by the bytes of their types, each of three bytes."""
+    return b"\xff" + struct.pack(">HH", delta, len(locals_given) // 3) + locals_given + struct.pack(">H", len(stack_given)) + stack_given
 
 
 def refused(at):
@@ -45,10 +51,21 @@ def appending_handlers(count, locals_given):
     return made(RETURN + NOP + RETURN * 2 * count, locals_given + count, entries, [handler(1, 2, 2 + 2 * i) for i in range(count)]), refused(1)
 
 
+def handlers_in_turn(count, locals_given):
+    """An instruction under so many handlers. Their frames want an Object in each local but the first, or but the second, which asks for Y: in the
+    table one kind of frames stands in turn with the other."""
+    own, objects = OWN * locals_given, OBJECT * (locals_given - 2)
+    frames = [first + objects for first in (MISSING + OBJECT, OBJECT + MISSING)]
+    entries = [all_of(1, own), *[it for kind in frames for it in [all_of(0, kind, b"\x00"), *[TOP_ON_STACK] * (count // 2 - 1)]]]
+    table = [handler(1, 2, 2 + i // 2 + i % 2 * (count // 2)) for i in range(count)]
+    return made(RETURN + NOP + RETURN * count, locals_given, entries, table), refused(1)
+
+
 # by its name: a file, and what is printed
 FILES = {
     "a switch to 1,500 frames of 65,000 locals that ask for a missing class": lambda: targets(15000, 1500, 65000, [b"\x00"]),
     "a switch to 1,500 such frames that append a local and chop it in turn": lambda: targets(15000, 1500, 65000, [APPEND_INT, CHOP_ONE]),
     "4,000 handlers of frames of 60,000 locals that ask for a missing class": lambda: handlers(4000, 60000),
     "2,700 such handlers whose frames have a local more each": lambda: appending_handlers(2700, 60000),
+    "4,000 handlers of two such frames of 20,000 locals in turn": lambda: handlers_in_turn(4000, 20000),
 }
