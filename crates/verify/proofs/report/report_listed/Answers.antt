@@ -1,8 +1,10 @@
-use Rattle.std.proofs.Common.{◌≡◌, ◌∙◌, ◌++◌, ◌+◌, ◌∷◌, [], ap, sym, subst, length}
+use Rattle.std.proofs.Common.{◌≡◌, ◌∙◌, ◌++◌, ◌+◌, ◌∷◌, [], ap, sym, subst, length, arith}
 use Rattle.std.specs.Prelude.{slice_get}
-use Rattle.std.proofs.lemmas.List.{length-append}
+use Rattle.std.proofs.lemmas.List.{length-append, length-map}
+use Rattle.std.proofs.lemmas.Result.{err_from_is_err_and}
 use Rattle.classfile.specs.CodeMethods.{judged_class}
-use Rattle.classfile.specs.Views.{class_view}
+use Rattle.classfile.specs.declared.class_file.ClassFile.{ClassFile}
+use Rattle.classfile.specs.Views.{class_view, member_view}
 use Rattle.hierarchy.specs.Rules.{IsHierarchy}
 use Rattle.method_frames.specs.NumberedFrames.{NumberedFrames}
 use Rattle.type_numbers.specs.Numbers.{Numbering}
@@ -53,3 +55,24 @@ loop-number-preserved g c =
       count = ap length is ∙ length-append old (x ∷ []) ∙ ap (λ n. n + 1) count;
       each = λ n r e. one_more_item old x (λ n r. IsReported classes class n r) c.loop-number.invariant.each here n r (ap (λ xs. slice_get xs n) (sym is) ∙ e);
     }
+
+pub returns-in_err-verdict-clause-memory : goal.returns-in_err-verdict-clause-memory
+returns-in_err-verdict-clause-memory g c =
+    let p = err_from_is_err_and c.from_residual-in_err-verdict.result c.from_residual-in_err-verdict.ensures.1 in
+    rw (p.1, p.2) c.in_err-verdict.ensures.memory
+
+pub returns-in_err-push-clause-memory : goal.returns-in_err-push-clause-memory
+returns-in_err-push-clause-memory g c =
+    let p = err_from_is_err_and c.from_residual-in_err-push.result c.from_residual-in_err-push.ensures.1 in
+    rw p.1 p.2
+
+pub returns-clause-found : goal.returns-clause-found
+returns-clause-found g c = record {
+  listed = c.requires.listed;
+  all =
+      let count = c.loop-number.invariant.count in
+      let mapped = length-map c.args.formed.now.class.now.methods.items member_view in
+      let same = ap (λ (k : ClassFile). length k.methods.items) c.class-class.ensures.same in
+      omega (arith, count, mapped, same, c.loop-number-test.false, c.len-number-end.ensures, c.loop-number.auto.number-end, c.class-class.result.now.methods.ok.0);
+  each = c.loop-number.invariant.each;
+}
