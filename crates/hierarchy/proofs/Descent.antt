@@ -9,7 +9,7 @@ use Rattle.hierarchy.specs.declared.inheritance.Inherited.{Inherited}
 use Rattle.hierarchy.specs.declared.member_numbers.MemberNumbers.{MemberNumbers}
 use Rattle.hierarchy.specs.declared.versions.Versions.{Versions}
 use Rattle.hierarchy.specs.private.Above.{class_above, number_of}
-use Rattle.hierarchy.specs.private.Ancestry.{IsAncestry, IsOwn, facts_at}
+use Rattle.hierarchy.specs.private.Ancestry.{IsAncestry, IsOwn, facts_at, place_among}
 use Rattle.hierarchy.specs.Answer.{on_chain}
 use Rattle.hierarchy.specs.Class.{MemberFact, ClassFact, class_of, world_of, IsSubclass}
 use Rattle.hierarchy.specs.private.Flags.{AreNumbers, KeepNumbers}
@@ -94,7 +94,7 @@ module _ (classes all : List ClassFact) (a : Ancestry) (is : all ≡ facts_at a.
   own_at p c e = good.own p c (at_place p c e)
 
   one_place : (p q : ℕ) (c d : ClassFact) → slice_get all p ≡ Some c → slice_get all q ≡ Some d → c.name ≡ d.name → p ≡ q
-  one_place p q c d e f same = some_same (sym (good.places.exact p c (at_place p c e)) ∙ ap (number_of a.places) same ∙ good.places.exact q d (at_place q d f))
+  one_place p q c d e f same = some_same (sym (good.places.exact p c (at_place p c e)) ∙ ap (place_among classes a.places) same ∙ good.places.exact q d (at_place q d f))
 
   module _ (p : ℕ) (c : ClassFact) (at : slice_get all p ≡ Some c) where
     own : IsOwn classes c

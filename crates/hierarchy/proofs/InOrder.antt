@@ -1,21 +1,28 @@
 -- Classes with all that stand above them: a step upward, and one more class put behind the others.
 use Rattle.std.proofs.Common.{◌≡◌, ◌==◌, ℕ, suc, ◌+◌, ◌-◌, ◌<◌, ◌≤◌, Bool, true, false, cond, List, [], ◌∷◌, ◌++◌, get_or, length, slice_get, Option, Some, None, option_map, IsSome, is_some, MatchOption, refl, ap, sym, ◌∙◌, subst, arith}
+use Rattle.std.specs.BTreeMap.{BTreeMap, get, is_at}
 use Rattle.std.specs.Borrow.{Bor}
+use Rattle.std.specs.Cmp.{Equal-is}
 use Rattle.std.specs.Option.{option_and_then}
+use Rattle.std.specs.Ordering.{is_eq, nat_cmp}
 use Rattle.std.specs.Str.{bytes_eq}
 use Rattle.std.proofs.lemmas.Bool.{false≢true, eqb-true}
+use Rattle.std.proofs.lemmas.Cmp.{nat_cmp_total, tied_itself}
 use Rattle.std.proofs.lemmas.List.{length-append, length-map, map-append}
 use Rattle.std.proofs.lemmas.Option.{slice_get_within, slice_get-get_or, slice_get-map}
+use Rattle.std.proofs.lemmas.Map.Lookups.{exact_unsigned}
 use Rattle.std.proofs.lemmas.Slice.Eq.{bytes_eq-Decides}
 use Rattle.hierarchy.specs.declared.ancestry.Ancestry.{Ancestry}
 use Rattle.hierarchy.specs.declared.summary.Summary.{Summary}
-use Rattle.hierarchy.specs.private.Above.{class_above, upward, number_of}
-use Rattle.hierarchy.specs.private.Ancestry.{Adds, AreInTurn, Has, HasAny, IsAncestry, IsOwn, facts_at}
+use Rattle.hierarchy.specs.private.Above.{class_above, upward}
+use Rattle.hierarchy.specs.private.Ancestry.{Adds, AreInTurn, Has, HasAny, IsAncestry, IsOwn, facts_at, place_among}
 use Rattle.hierarchy.specs.Class.{ClassFact, class_of}
+use Rattle.hierarchy.specs.Places.{place_in}
 use Rattle.hierarchy.specs.Rules.{IsHierarchy}
 use Rattle.hierarchy.specs.Summary.{fact_of}
 use Rattle.hierarchy.proofs.Guards.{behind, before, at_last}
-use Rattle.hierarchy.proofs.Names.{none_some, some_same}
+use Rattle.hierarchy.proofs.Names.{no_place, none_some, some_same}
+use Rattle.hierarchy.proofs.PlacesKept.{places_are_names}
 use Rattle.hierarchy.proofs.Upward.{found_own, no_more}
 
 -- ---- classes in turn
@@ -94,12 +101,42 @@ module _ (classes : List ClassFact) (h : IsHierarchy classes) (start : ClassFact
       closed = ap (λ xs. facts_at xs ++ upward classes (most - length more) next) pushed ∙ ap (λ xs. xs ++ upward classes (most - length more) next) (facts_more kept s)
           ∙ each (facts_at kept) (upward classes (most - length more) next) (fact_of s.now)
 
+-- ---- places among some classes
+
+-- a class of the list of all has a place there
+pub own_place : (classes : List ClassFact) (c : ClassFact) → IsOwn classes c → place_in classes c.name ≡ None → ⊥
+own_place classes c own e = none_some (sym (no_place (λ (d : ClassFact). bytes_eq c.name d.name) classes e) ∙ own)
+
+-- one class more gets a place
+module _ (classes : List ClassFact) (name : List ℕ) (number place : ℕ) (old new : BTreeMap ℕ ℕ) (at : place_in classes name ≡ Some number)
+    (updates : (q : ℕ) → get nat_cmp new q ≡ cond (is_at (nat_cmp number) q) (Some place) (get nat_cmp old q)) where
+  pub place_given : (t : List ℕ) → place_among classes new t ≡ cond (bytes_eq name t) (Some place) (place_among classes old t)
+  place_given t = by (place_in classes t) refl (bytes_eq name t) refl
+    where
+      reads : (n : ℕ) (b : Bool) → is_at (nat_cmp number) n ≡ b → get nat_cmp new n ≡ cond b (Some place) (get nat_cmp old n)
+      reads n b e = updates n ∙ ap (λ b. cond b (Some place) (get nat_cmp old n)) e
+
+      itself : is_at (nat_cmp number) number ≡ true
+      itself = ap is_eq (tied_itself nat_cmp_total number)
+
+      by : (o : Option ℕ) → place_in classes t ≡ o → (b : Bool) → bytes_eq name t ≡ b → option_and_then (get nat_cmp new) o ≡ cond b (Some place) (option_and_then (get nat_cmp old) o)
+      by None e true f = absurd (none_some (sym e ∙ ap (place_in classes) (sym ((bytes_eq-Decides name t).0 f)) ∙ at))
+      by None e false f = refl
+      by (Some n) e true f =
+          let same : number ≡ n = some_same (sym at ∙ ap (place_in classes) ((bytes_eq-Decides name t).0 f) ∙ e) in
+          reads n true (subst (λ m. is_at (nat_cmp number) m ≡ true) same itself)
+      by (Some n) e false f = other (is_at (nat_cmp number) n) refl
+        where
+          other : (b : Bool) → is_at (nat_cmp number) n ≡ b → get nat_cmp new n ≡ get nat_cmp old n
+          other true g = absurd (false≢true (sym f ∙ (bytes_eq-Decides name t).1 (places_are_names classes name t n (at ∙ ap (λ m. Some m) (exact_unsigned number n ((Equal-is (nat_cmp number n)).0 g))) e)))
+          other false g = reads n false g
+
 -- ---- one more class
 
 -- where no class stands
-pub no_ancestry : (classes : List ClassFact) (a : Ancestry) → a.classes.items ≡ [] → ((name : List ℕ) → number_of a.places name ≡ None) → IsAncestry classes a
+pub no_ancestry : (classes : List ClassFact) (a : Ancestry) → a.classes.items ≡ [] → ((n : ℕ) → get nat_cmp a.places n ≡ None) → IsAncestry classes a
 no_ancestry classes a e none = record {
-  places = record { leads = λ name p h. absurd (none_some (sym (none name) ∙ h)); exact = λ p c h. absurd (empty p c h) };
+  places = record { leads = λ name p h. absurd (nowhere (place_in classes name) p h); exact = λ p c h. absurd (empty p c h) };
   own = λ p c h. absurd (empty p c h);
   order = λ p c d h f. absurd (empty p c h);
 }
@@ -107,19 +144,23 @@ no_ancestry classes a e none = record {
     empty : (p : ℕ) (c : ClassFact) → slice_get (facts_at a.classes.items) p ≡ Some c → ⊥
     empty p c h = none_some (sym (ap (λ xs. slice_get (facts_at xs) p) e) ∙ h)
 
+    nowhere : (o : Option ℕ) (p : ℕ) → option_and_then (get nat_cmp a.places) o ≡ Some p → ⊥
+    nowhere None p h = none_some h
+    nowhere (Some n) p h = none_some (sym (none n) ∙ h)
+
 -- a class that has a place
-pub placed : (classes : List ClassFact) (a : Ancestry) → IsAncestry classes a → (c : ClassFact) → IsOwn classes c → IsSome (number_of a.places c.name) → Has a c
-placed classes a good c own some = by (number_of a.places c.name) refl some
+pub placed : (classes : List ClassFact) (a : Ancestry) → IsAncestry classes a → (c : ClassFact) → IsOwn classes c → IsSome (place_among classes a.places c.name) → Has a c
+placed classes a good c own some = by (place_among classes a.places c.name) refl some
   where
-    by : (o : Option ℕ) → number_of a.places c.name ≡ o → IsSome o → Has a c
+    by : (o : Option ℕ) → place_among classes a.places c.name ≡ o → IsSome o → Has a c
     by None e s = absurd (false≢true s)
     by (Some p) e s =
         let at = good.places.leads c.name p e in
         (p, at.1 ∙ ap (λ x. Some x) (one_class classes at.0 c (good.own p at.0 at.1) own at.2))
 
 -- a class that has none is put behind all others
-module _ (old new : Ancestry) (s : Bor Summary) (none : number_of old.places s.now.name.now ≡ None)
-    (more : new.classes.items ≡ old.classes.items ++ s ∷ []) (written : (t : List ℕ) → number_of new.places t ≡ cond (bytes_eq s.now.name.now t) (Some (length old.classes.items)) (number_of old.places t)) where
+module _ (classes : List ClassFact) (old new : Ancestry) (s : Bor Summary) (own : IsOwn classes (fact_of s.now)) (none : place_among classes old.places s.now.name.now ≡ None)
+    (more : new.classes.items ≡ old.classes.items ++ s ∷ []) (written : (t : List ℕ) → place_among classes new.places t ≡ cond (bytes_eq s.now.name.now t) (Some (length old.classes.items)) (place_among classes old.places t)) where
   abbrev c : ClassFact
   c = fact_of s.now
 
@@ -140,13 +181,13 @@ module _ (old new : Ancestry) (s : Bor Summary) (none : number_of old.places s.n
       let lt = slice_get_within was p d e in
       ap (λ xs. slice_get xs p) is ∙ before was c p (λ same. absurd (omega (arith, lt, same))) ∙ e
 
-  pub put_behind : Adds old new c
-  put_behind classes good own above = (record { places = record { leads = leads; exact = exact }; own = owns; order = order }, (length old.classes.items, end))
+  pub put_behind : Adds classes old new c
+  put_behind good above = (record { places = record { leads = leads; exact = exact }; own = owns; order = order }, (length old.classes.items, end))
     where
-      leads : (name : List ℕ) (p : ℕ) → number_of new.places name ≡ Some p → (d : ClassFact) × (slice_get (facts_at new.classes.items) p ≡ Some d) × (d.name ≡ name)
+      leads : (name : List ℕ) (p : ℕ) → place_among classes new.places name ≡ Some p → (d : ClassFact) × (slice_get (facts_at new.classes.items) p ≡ Some d) × (d.name ≡ name)
       leads name p e = by (bytes_eq c.name name) refl (sym (written name) ∙ e)
         where
-          by : (b : Bool) → bytes_eq c.name name ≡ b → cond b (Some (length old.classes.items)) (number_of old.places name) ≡ Some p → (d : ClassFact) × (slice_get (facts_at new.classes.items) p ≡ Some d) × (d.name ≡ name)
+          by : (b : Bool) → bytes_eq c.name name ≡ b → cond b (Some (length old.classes.items)) (place_among classes old.places name) ≡ Some p → (d : ClassFact) × (slice_get (facts_at new.classes.items) p ≡ Some d) × (d.name ≡ name)
           by true f e = (c, ap (slice_get (facts_at new.classes.items)) (sym (some_same e)) ∙ end, (bytes_eq-Decides c.name name).0 f)
           by false f e = let at = good.places.leads name p e in (at.0, stays p at.0 at.1, at.2)
 
@@ -154,16 +195,16 @@ module _ (old new : Ancestry) (s : Bor Summary) (none : number_of old.places s.n
       split : (p : ℕ) (d : ClassFact) → slice_get (facts_at new.classes.items) p ≡ Some d → (b : Bool) → (p == length was) ≡ b → cond b (Some c) (slice_get was p) ≡ Some d
       split p d e b f = ap (λ t. cond t (Some c) (slice_get was p)) (sym f) ∙ sym (at_last was c p) ∙ sym (ap (λ xs. slice_get xs p) is) ∙ e
 
-      exact : (p : ℕ) (d : ClassFact) → slice_get (facts_at new.classes.items) p ≡ Some d → number_of new.places d.name ≡ Some p
+      exact : (p : ℕ) (d : ClassFact) → slice_get (facts_at new.classes.items) p ≡ Some d → place_among classes new.places d.name ≡ Some p
       exact p d e = by (p == length was) refl (split p d e (p == length was) refl)
         where
-          old_name : (b : Bool) → bytes_eq c.name d.name ≡ b → number_of old.places d.name ≡ Some p → cond b (Some (length old.classes.items)) (number_of old.places d.name) ≡ Some p
-          old_name true f at = absurd (none_some (sym none ∙ ap (number_of old.places) ((bytes_eq-Decides c.name d.name).0 f) ∙ at))
+          old_name : (b : Bool) → bytes_eq c.name d.name ≡ b → place_among classes old.places d.name ≡ Some p → cond b (Some (length old.classes.items)) (place_among classes old.places d.name) ≡ Some p
+          old_name true f at = absurd (none_some (sym none ∙ ap (place_among classes old.places) ((bytes_eq-Decides c.name d.name).0 f) ∙ at))
           old_name false f at = at
 
-          by : (b : Bool) → (p == length was) ≡ b → cond b (Some c) (slice_get was p) ≡ Some d → number_of new.places d.name ≡ Some p
+          by : (b : Bool) → (p == length was) ≡ b → cond b (Some c) (slice_get was p) ≡ Some d → place_among classes new.places d.name ≡ Some p
           by true f e =
-              written d.name ∙ ap (λ b. cond b (Some (length old.classes.items)) (number_of old.places d.name)) ((bytes_eq-Decides c.name d.name).1 (ap (λ (x : ClassFact). x.name) (some_same e)))
+              written d.name ∙ ap (λ b. cond b (Some (length old.classes.items)) (place_among classes old.places d.name)) ((bytes_eq-Decides c.name d.name).1 (ap (λ (x : ClassFact). x.name) (some_same e)))
               ∙ ap (λ n. Some n) (sym long ∙ sym (eqb-true p (length was) f))
           by false f e = written d.name ∙ old_name (bytes_eq c.name d.name) refl (good.places.exact p d e)
 
@@ -193,7 +234,7 @@ module _ (old new : Ancestry) (s : Bor Summary) (none : number_of old.places s.n
 
 -- it has a place, in front of that of the class
 pub place_above : (classes : List ClassFact) (a : Ancestry) → IsAncestry classes a → (n : ℕ) (c d : ClassFact) (o : Option ℕ) → slice_get (facts_at a.classes.items) n ≡ Some c
-    → class_above classes c ≡ Some d → o ≡ number_of a.places d.name → (q : ℕ) × (o ≡ Some q) × (q < n) × (slice_get (facts_at a.classes.items) q ≡ Some d)
+    → class_above classes c ≡ Some d → o ≡ place_among classes a.places d.name → (q : ℕ) × (o ≡ Some q) × (q < n) × (slice_get (facts_at a.classes.items) q ≡ Some d)
 place_above classes a good n c d o at up is = let r = good.order n c d at up in (r.0, is ∙ good.places.exact r.0 d r.2, r.1, r.2)
 
 pub none_of : {X : Type 0} (o : Option X) → is_some o ≡ false → o ≡ None

@@ -8,8 +8,7 @@ use Rattle.std.proofs.lemmas.Option.{slice_get_within, slice_get-get_or}
 use Rattle.hierarchy.specs.declared.inheritance.Inherited.{Inherited}
 use Rattle.hierarchy.specs.declared.inheritance.Inheritance.{Inheritance}
 use Rattle.hierarchy.specs.declared.summary.Summary.{Summary}
-use Rattle.hierarchy.specs.private.Above.{number_of}
-use Rattle.hierarchy.specs.private.Ancestry.{facts_at}
+use Rattle.hierarchy.specs.private.Ancestry.{facts_at, place_among}
 use Rattle.hierarchy.specs.Class.{ClassFact, IsSubclass}
 use Rattle.hierarchy.specs.private.Inheritance.{Inherits, IsCoded, IsInheritance, IsProtectedAt, free, kept, Tells}
 use Rattle.hierarchy.specs.Nearest.{MemberReference, Declaration, IsNearest, is_guarded}
@@ -90,12 +89,12 @@ module _ (classes : List ClassFact) (h : Inheritance) (is : IsInheritance classe
   -- ---- what is guarded
 
   module _ (class : ℕ) (c : ClassFact) (at : slice_get all class ≡ Some c) (r : MemberReference) where
-    pub no_place : number_of h.ancestry.places r.class ≡ None → false ≡ is_guarded classes c.name r
+    pub no_place : place_among classes h.ancestry.places r.class ≡ None → false ≡ is_guarded classes c.name r
     no_place none = apart_free classes (formed_at class c at) c r (λ sub.
         let x = reach_placed classes all h.ancestry refl is.ancestry h.numbers (formed_at class c at) class c r.class at sub in
-        none_some (sym none ∙ ap (number_of h.ancestry.places) (sym x.3) ∙ is.ancestry.places.exact x.0 x.1 x.2))
+        none_some (sym none ∙ ap (place_among classes h.ancestry.places) (sym x.3) ∙ is.ancestry.places.exact x.0 x.1 x.2))
 
-    module _ (start : ℕ) (found : number_of h.ancestry.places r.class ≡ Some start) where
+    module _ (start : ℕ) (found : place_among classes h.ancestry.places r.class ≡ Some start) where
       pub start_at : (d : ClassFact) × (slice_get all start ≡ Some d) × (d.name ≡ r.class)
       start_at = is.ancestry.places.leads r.class start found
 
@@ -115,7 +114,7 @@ module _ (classes : List ClassFact) (h : Inheritance) (is : IsInheritance classe
           → not (nat_eq j.package_number i.package_number) ≡ is_guarded classes c.name r
       start_guarded apart sub p x i j lt read_i read_j =
           protected_guards classes (formed_at class c at) c r (not (nat_eq j.package_number i.package_number)) y.0
-          (λ same. apart (some_same (sym found ∙ ap (number_of h.ancestry.places) (sym same) ∙ is.ancestry.places.exact class c at)))
+          (λ same. apart (some_same (sym found ∙ ap (place_among classes h.ancestry.places) (sym same) ∙ is.ancestry.places.exact class c at)))
           (subst (IsSubclass classes c.name) start_at.2 sub) (subst (λ m. IsNearest classes r m y.0) start_at.2 y.2) y.3
           (elsewhere_by h.table.packages is.inherit.named c y.0.class i.package_number j.package_number
           (inherits_of class i c lt read_i at).in_package (inherits_of p j y.0.class (within p y.0.class y.1) read_j y.1).in_package)

@@ -6,9 +6,9 @@ use Rattle.std.proofs.lemmas.Option.{slice_get_past, slice_get-get_or}
 use Rattle.std.proofs.lemmas.List.{get_or-map, length-map}
 use Rattle.std.proofs.lemmas.Bool.{ltb-false, ltb-true, false≢true}
 use Rattle.std.specs.Str.{bytes_eq}
-use Rattle.std.specs.Borrow.{Bor}
 use Rattle.std.proofs.lemmas.Option.{slice_get_within}
 use Rattle.std.proofs.lemmas.Slice.Eq.{bytes_eq-Decides}
+use Rattle.hierarchy.specs.declared.name_key.NameKey.{NameKey}
 use Rattle.hierarchy.specs.Class.{ClassFact, class_of}
 
 pub first_map : {X Y : Type 0} (p : Y → Bool) (f : X → Y) (xs : List X) → position_or_len p (map f xs) ≡ position_or_len (λ x. p (f x)) xs
@@ -19,8 +19,8 @@ position_map : {X Y : Type 0} (p : Y → Bool) (f : X → Y) (xs : List X) → p
 position_map p f xs = λ i. cond (nat_lt (first_map p f xs i) (length-map xs f i)) (Some (first_map p f xs i)) None
 
 -- the place of a name among the names is that of its class in the list
-pub place_same : (ks : List (Bor (List ℕ))) (cs : List ClassFact) (n : List ℕ) → map (λ k. k.now) ks ≡ map (λ c. c.name) cs → position (λ k. bytes_eq n k.now) ks ≡ position (λ c. bytes_eq n c.name) cs
-place_same ks cs n e = sym (position_map (bytes_eq n) (λ (k : Bor (List ℕ)). k.now) ks) ∙ ap (position (bytes_eq n)) e ∙ position_map (bytes_eq n) (λ (c : ClassFact). c.name) cs
+pub place_same : (ks : List NameKey) (cs : List ClassFact) (n : List ℕ) → map (λ k. k.bytes.now) ks ≡ map (λ c. c.name) cs → position (λ k. bytes_eq n k.bytes.now) ks ≡ position (λ c. bytes_eq n c.name) cs
+place_same ks cs n e = sym (position_map (bytes_eq n) (λ (k : NameKey). k.bytes.now) ks) ∙ ap (position (bytes_eq n)) e ∙ position_map (bytes_eq n) (λ (c : ClassFact). c.name) cs
 
 -- what stands at the place that was found
 pub at_place : {X : Type 0} (p : X → Bool) (xs : List X) (i : ℕ) → position p xs ≡ Some i → find p xs ≡ slice_get xs i

@@ -1,7 +1,6 @@
 //! Classes with all that stand above them, each behind its superclass.
 ghost use Rattle.std.specs.Prelude.{◌≡◌, ◌<◌, List, [], length, IfOk, OnOk};
-ghost use Rattle.hierarchy.specs.private.Above.{number_of};
-ghost use Rattle.hierarchy.specs.private.Ancestry.{Adds, EndsBelow, IsAncestry, IsOwn, facts_at};
+ghost use Rattle.hierarchy.specs.private.Ancestry.{Adds, EndsBelow, IsAncestry, IsOwn, facts_at, place_among};
 ghost use Rattle.hierarchy.specs.Class.{ClassFact};
 ghost use Rattle.hierarchy.specs.Rules.{IsHierarchy};
 ghost use Rattle.hierarchy.specs.Summary.{fact_of};
@@ -12,11 +11,12 @@ use crate::superclasses::class_above;
 use std::alloc::{AllocError, Global};
 use std::collections::BTreeMap;
 
-/// Classes, each behind its superclass, and the place of each by its name.
+/// Some of all classes, each behind its superclass.
 #[derive(Drop)]
 pub struct Ancestry<'k> {
     pub classes: Vec<&'k Summary<'k>>,
-    pub places: BTreeMap<&'k [u8], usize>,
+    /// The place of each, by its place in the list of all classes.
+    pub places: BTreeMap<u16, usize>,
 }
 
 impl<'k> Ancestry<'k> {
@@ -31,13 +31,14 @@ impl<'k> Ancestry<'k> {
         }
     }
 
-    /// The place of the class of this name.
-    pub fn place(&self, name: &[u8]) -> Option<usize>
-        ensures { result ≡ number_of self.now.places name.now }
+    /// The place of the class of this name. Where the class stands in the list of all is found by its name, and where
+    /// it stands here by that number alone.
+    pub fn place<C: Classes>(&self, classes: &C, name: &[u8]) -> Option<usize>
+        ensures { result ≡ place_among (C.content classes.now) self.now.places name.now }
     {
-        match self.places.get(name) {
+        match classes.place(name) {
             None => None,
-            Some(place) => Some(*place),
+            Some(number) => self.places.get(&number).copied(),
         }
     }
 
@@ -56,7 +57,7 @@ impl<'k> Ancestry<'k> {
         let mut way = Vec::new(alloc);
         let mut at = Some(start);
         while let Some(class) = at {
-            if self.place(class.name).is_some() {
+            if self.place(classes, class.name).is_some() {
                 break;
             }
             way.push(class)?;
@@ -66,15 +67,19 @@ impl<'k> Ancestry<'k> {
     }
 
     /// Puts a class behind all others, where it has no place.
-    fn push(&mut self, class: &'k Summary<'k>) -> Result<(), AllocError>
-        ensures { OnOk result (Adds self.old self.new (fact_of class.now)) }
+    fn push<C: Classes>(&mut self, classes: &C, class: &'k Summary<'k>) -> Result<(), AllocError>
+        requires own { IsOwn (C.content classes.now) (fact_of class.now) }
+        ensures { OnOk result (Adds (C.content classes.now) self.old self.new (fact_of class.now)) }
     {
-        if self.place(class.name).is_some() {
+        let Some(number) = classes.place(class.name) else {
+            unreachable!();
+        };
+        if self.places.contains_key(&number) {
             return Ok(());
         }
         let place = self.classes.len();
         self.classes.push(class)?;
-        self.places.insert(class.name, place)?;
+        self.places.insert(number, place)?;
         Ok(())
     }
 
@@ -92,7 +97,7 @@ impl<'k> Ancestry<'k> {
     {
         let mut way = self.way(alloc, classes, class)?;
         while let Some(class) = way.pop() {
-            self.push(class)?;
+            self.push(classes, class)?;
         }
         Ok(())
     }

@@ -86,6 +86,20 @@ impl<'s, 'a, S: BuildHasher> Classes for Chains<'s, 'a, S> {
         }
     }
 
+    fn is_interface_at(&self, place: u16) -> bool {
+        self.index.is_interface_at(usize::from(place))
+    }
+
+    fn is_below(&self, a: u16, b: u16) -> bool {
+        let Some(from) = self.index.name_at(usize::from(a)) else {
+            return false;
+        };
+        let Some(to) = self.index.name_at(usize::from(b)) else {
+            return false;
+        };
+        self.index.reaches(from, to)
+    }
+
     fn guarded_in_advance(
         &self,
         _alloc: Global,

@@ -1,12 +1,12 @@
 //! The questions that are asked of a set of classes, however it is kept.
-ghost use Rattle.std.specs.Prelude.{◌≡◌, List, map, option_map, IfOk, IfSome};
+ghost use Rattle.std.specs.Prelude.{◌≡◌, ℕ, List, Some, map, option_map, IfOk, IfSome};
 ghost use Rattle.std.specs.Option.{option_copied};
 ghost use Rattle.hierarchy.specs.Class.{ClassFact, class_of, interface_of};
 ghost use Rattle.hierarchy.specs.Nearest.{is_guarded};
 ghost use Rattle.hierarchy.specs.Places.{place_in};
 ghost use Rattle.hierarchy.specs.Summary.{fact_of, reference_of};
 ghost use Rattle.hierarchy.specs.Rules.{IsHierarchy};
-ghost use Rattle.hierarchy.specs.Answer.{SubclassAnswer, outcome_of};
+ghost use Rattle.hierarchy.specs.Answer.{SubclassAnswer, outcome_of, yes_if};
 
 use crate::answer::Answer;
 use crate::member_references::MemberRef;
@@ -36,6 +36,17 @@ pub trait Classes {
     /// otherwise whether `b` is on the chain of superclasses of `a` (JVMS 4.10.1.2).
     fn is_subclass<'n>(&self, a: &'n [u8], b: &'n [u8]) -> Answer<'n>
         ensures { SubclassAnswer (content self.now) a.now b.now (outcome_of result) };
+
+    /// Whether the class at a place is an interface; false where no class has the place.
+    fn is_interface_at(&self, place: u16) -> bool
+        ensures { (name : List ℕ) → place_in (content self.now) name ≡ Some place
+            → interface_of (content self.now) name ≡ Some result };
+
+    /// Whether the class at the place `a` is that at the place `b` or stands below it: the answer of
+    /// [`Classes::is_subclass`] for their names, without a look at these. False where a place is that of no class.
+    fn is_below(&self, a: u16, b: u16) -> bool
+        ensures { (x y : List ℕ) → place_in (content self.now) x ≡ Some a → place_in (content self.now) y ≡ Some b
+            → SubclassAnswer (content self.now) x y (yes_if result) };
 
     /// The answers of [`guarded`](crate::guarded), where what the class of this name inherits was found in advance
     /// ([`Prepared`](crate::Prepared)). This question alone takes memory, for its answers.

@@ -1,14 +1,16 @@
 //! A list of classes, each found by its name.
 ghost use Rattle.std.specs.List.{IsDistinct, list_any};
-ghost use Rattle.std.specs.Prelude.{◌≡◌, ◌↔◌, true, map, take, drop, length, Some, IsTrue, IfOk, IfErr, option_map, position, slice_get};
+ghost use Rattle.std.specs.Prelude.{◌≡◌, ◌↔◌, ℕ, List, true, map, take, drop, length, Some, IsTrue, IfOk, IfErr, option_map, position, slice_get};
 ghost use Rattle.std.specs.Option.{option_copied};
 ghost use Rattle.std.specs.Str.{bytes_eq};
 ghost use Rattle.hierarchy.specs.Class.{ClassFact, class_of, interface_of, superclass_of, IsSubclass};
 ghost use Rattle.hierarchy.specs.Summary.{fact_of, facts_of};
+ghost use Rattle.hierarchy.specs.Places.{place_in};
 ghost use Rattle.hierarchy.specs.Rules.{IsTwice, NoClass, IsFirst};
 ghost use Rattle.hierarchy.specs.Faults.{FaultOf};
 
 use crate::fault::HierarchyFault;
+use crate::name_key::NameKey;
 use crate::places::{lowest, name_at};
 use crate::summary::Summary;
 use indexmap::IndexSet;
@@ -17,21 +19,24 @@ use std::hash::BuildHasher;
 use std::marker::Model;
 
 // The place of the name of a class in a table.
-fn place_in<'a, S: BuildHasher>(class: &Summary<'a>, names: &IndexSet<&'a [u8], S>) -> Option<usize>
-    ensures { result ≡ position (λ k. bytes_eq class.now.name.now k.now) names.now.keys }
+fn place_in<'a, S: BuildHasher>(
+    class: &Summary<'a>,
+    names: &IndexSet<NameKey<'a>, S>,
+) -> Option<usize>
+    ensures { result ≡ position (λ k. bytes_eq class.now.name.now k.bytes.now) names.now.keys }
 {
-    names.get_index_of(class.name)
+    names.get_index_of(&NameKey { bytes: class.name })
 }
 
 // The places in a table of the names of all classes from a place on.
 fn repeats<'a, S: BuildHasher>(
     alloc: Global,
     classes: &[Summary<'a>],
-    names: &IndexSet<&'a [u8], S>,
+    names: &IndexSet<NameKey<'a>, S>,
     from: usize,
 ) -> Result<Vec<Option<usize>>, AllocError>
     ensures { IfOk result (λ places. places.items
-        ≡ map (λ c. position (λ k. bytes_eq c.name.now k.now) names.now.keys) (drop from classes.now)) }
+        ≡ map (λ c. position (λ k. bytes_eq c.name.now k.bytes.now) names.now.keys) (drop from classes.now)) }
 {
     classes
         .iter()
@@ -45,13 +50,13 @@ fn repeats<'a, S: BuildHasher>(
 fn first_twice<'a, S: BuildHasher>(
     alloc: Global,
     classes: &[Summary<'a>],
-    names: &IndexSet<&'a [u8], S>,
+    names: &IndexSet<NameKey<'a>, S>,
     place: usize,
 ) -> Result<&'a [u8], AllocError>
-    requires named { map (λ k. k.now) names.now.keys ≡ take place (map (λ c. c.name) (facts_of classes.now)) }
-    requires distinct { IsDistinct (λ a b. bytes_eq a.now b.now) names.now.keys }
+    requires named { map (λ k. k.bytes.now) names.now.keys ≡ take place (map (λ c. c.name) (facts_of classes.now)) }
+    requires distinct { IsDistinct (λ a b. bytes_eq a.bytes.now b.bytes.now) names.now.keys }
     requires repeated { (c : ClassFact) × (slice_get (facts_of classes.now) place ≡ Some c)
-        × (list_any (λ k. bytes_eq c.name k.now) names.now.keys ≡ true) }
+        × (list_any (λ k. bytes_eq c.name k.bytes.now) names.now.keys ≡ true) }
     ensures { IfOk result (λ name. IsFirst (IsTwice (facts_of classes.now)) (facts_of classes.now) name.now) }
 {
     let places = repeats(alloc, classes, names, place)?;
@@ -66,7 +71,7 @@ fn first_twice<'a, S: BuildHasher>(
 #[derive(Drop)]
 pub struct Index<'s, 'a, S: BuildHasher> {
     classes: &'s [Summary<'a>],
-    names: IndexSet<&'a [u8], S>,
+    names: IndexSet<NameKey<'a>, S>,
 }
 
 impl<'s, 'a, S: BuildHasher> Model for Index<'s, 'a, S> {
@@ -78,7 +83,7 @@ impl<'s, 'a, S: BuildHasher> Model for Index<'s, 'a, S> {
 
     ghost view = { λ t. facts_of t.classes.now };
 
-    ghost invariant = { λ t. map (λ k. k.now) t.names.keys ≡ map (λ c. c.name) (facts_of t.classes.now) };
+    ghost invariant = { λ t. map (λ k. k.bytes.now) t.names.keys ≡ map (λ c. c.name) (facts_of t.classes.now) };
 }
 
 impl<'s, 'a, S: BuildHasher> Index<'s, 'a, S> {
@@ -96,7 +101,7 @@ impl<'s, 'a, S: BuildHasher> Index<'s, 'a, S> {
     {
         let mut names = IndexSet::with_capacity_and_hasher(alloc, classes.len(), hasher)?;
         for (i, class) in classes.iter().enumerate() {
-            let (_, added) = names.insert_full(class.name)?;
+            let (_, added) = names.insert_full(NameKey { bytes: class.name })?;
             if !added {
                 let name = first_twice(alloc, classes, &names, i)?;
                 return Err(HierarchyFault::ClassTwice { name });
@@ -109,7 +114,7 @@ impl<'s, 'a, S: BuildHasher> Index<'s, 'a, S> {
     pub fn place(&self, name: &[u8]) -> Option<usize>
         ensures { result ≡ position (λ c. bytes_eq name.now c.name) self.now }
     {
-        self.names.get_index_of(name)
+        self.names.get_index_of(&NameKey { bytes: name })
     }
 
     /// The class of this name.
@@ -129,6 +134,25 @@ impl<'s, 'a, S: BuildHasher> Index<'s, 'a, S> {
         match self.find(name) {
             None => None,
             Some(class) => Some(class.interface),
+        }
+    }
+
+    /// Whether the class at a place is an interface; false where no class has the place.
+    pub fn is_interface_at(&self, place: usize) -> bool
+        ensures { (name : List ℕ) → place_in self.now name ≡ Some place → interface_of self.now name ≡ Some result }
+    {
+        place < self.classes.len() && self.classes[place].interface
+    }
+
+    /// The name of the class at a place.
+    pub fn name_at(&self, place: usize) -> Option<&'a [u8]>
+        ensures { (name : List ℕ) → place_in self.now name ≡ Some place
+            → option_map (λ n. n.now) result ≡ Some name }
+    {
+        if place < self.classes.len() {
+            Some(self.classes[place].name)
+        } else {
+            None
         }
     }
 

@@ -1,7 +1,7 @@
 //! The inheritance of classes, found for many at once.
 ghost use Rattle.std.specs.Prelude.{◌≡◌, ◌<◌, ◌↔◌, ◌+◌, List, [], length, map, slice_get, Some, IfOk, OnOk, IsTrue};
-ghost use Rattle.hierarchy.specs.private.Above.{class_above, number_of};
-ghost use Rattle.hierarchy.specs.private.Ancestry.{IsAncestry, facts_at};
+ghost use Rattle.hierarchy.specs.private.Above.{class_above};
+ghost use Rattle.hierarchy.specs.private.Ancestry.{IsAncestry, facts_at, place_among};
 ghost use Rattle.hierarchy.specs.Class.{ClassFact, IsSubclass};
 ghost use Rattle.hierarchy.specs.private.Inheritance.{Declares, HaveNumbers, InheritSoFar, InheritsAny, IsInheritance, IsProtectedAt, KeepMembers, NumberAll};
 ghost use Rattle.hierarchy.specs.private.MemberNumbers.{AreMemberNumbers};
@@ -151,7 +151,7 @@ impl<'k> InheritanceTable<'k> {
         let Some(above) = class_above(classes, class) else {
             return nothing;
         };
-        match ancestry.place(above.name) {
+        match ancestry.place(classes, above.name) {
             None => nothing,
             Some(place) => self.of[place],
         }
@@ -230,11 +230,11 @@ impl<'k> Inheritance<'k> {
         })
     }
 
-    /// The place of the class of this name.
-    pub fn place(&self, name: &[u8]) -> Option<usize>
-        ensures { result ≡ number_of self.now.ancestry.places name.now }
+    /// The place of the class of this name in the ancestry.
+    pub fn place<C: Classes>(&self, classes: &C, name: &[u8]) -> Option<usize>
+        ensures { result ≡ place_among (C.content classes.now) self.now.ancestry.places name.now }
     {
-        self.ancestry.place(name)
+        self.ancestry.place(classes, name)
     }
 
     /// Whether the class at a place is another one or stands below it.
@@ -272,14 +272,13 @@ impl<'k> Inheritance<'k> {
     }
 
     /// Whether the class at a place may use the member that a reference asks for on objects of its own alone.
-    fn is_guarded(&self, class: usize, reference: &MemberRef<'_>) -> bool
-        requires good { (classes : List ClassFact) × IsInheritance classes self.now }
+    fn is_guarded<C: Classes>(&self, classes: &C, class: usize, reference: &MemberRef<'_>) -> bool
+        requires good { IsInheritance (C.content classes.now) self.now }
         requires there { class < length self.now.table.of.items }
-        ensures { (classes : List ClassFact) (c : ClassFact) → IsInheritance classes self.now
-            → slice_get (facts_at self.now.ancestry.classes.items) class ≡ Some c
-            → result ≡ is_guarded classes c.name (reference_of reference.now) }
+        ensures { (c : ClassFact) → slice_get (facts_at self.now.ancestry.classes.items) class ≡ Some c
+            → result ≡ is_guarded (C.content classes.now) c.name (reference_of reference.now) }
     {
-        let Some(start) = self.place(reference.class) else {
+        let Some(start) = self.place(classes, reference.class) else {
             return false;
         };
         if start == class || !self.is_below(class, start) {
@@ -293,21 +292,22 @@ impl<'k> Inheritance<'k> {
     }
 
     /// For each reference whether the class at a place may use the member on objects of its own alone.
-    pub fn guarded(
+    pub fn guarded<C: Classes>(
         &self,
         alloc: Global,
+        classes: &C,
         class: usize,
         references: &[MemberRef<'_>],
     ) -> Result<Vec<bool>, AllocError>
-        requires good { (classes : List ClassFact) × IsInheritance classes self.now }
+        requires good { IsInheritance (C.content classes.now) self.now }
         requires there { class < length self.now.table.of.items }
-        ensures { IfOk result (λ answers. (classes : List ClassFact) (c : ClassFact) → IsInheritance classes self.now
+        ensures { IfOk result (λ answers. (c : ClassFact)
             → slice_get (facts_at self.now.ancestry.classes.items) class ≡ Some c
-            → answers.items ≡ map (λ r. is_guarded classes c.name (reference_of r)) references.now) }
+            → answers.items ≡ map (λ r. is_guarded (C.content classes.now) c.name (reference_of r)) references.now) }
     {
         let mut answers = Vec::with_capacity(alloc, references.len())?;
         for reference in references {
-            answers.push(self.is_guarded(class, reference))?;
+            answers.push(self.is_guarded(classes, class, reference))?;
         }
         Ok(answers)
     }

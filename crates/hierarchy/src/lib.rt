@@ -7,6 +7,7 @@
 //! - `answer`: yes, no, or a class that would be needed and is absent.
 //! - `classes`: the questions, whatever keeps the classes.
 //! - `fault`: why a list of classes is refused.
+//! - `name_key`: the names of classes as keys of a hash table.
 //! - `index`: a list of classes, each found by its name.
 //! - `places`: places in a list of classes.
 //! - `rules`: the rules that a single class may break, and the first class that does.
@@ -46,6 +47,7 @@ pub mod laws;
 mod member_key;
 mod member_numbers;
 mod member_references;
+mod name_key;
 mod package;
 mod places;
 mod prepared_classes;

@@ -46,7 +46,8 @@ fn guarded_by_walk<'a, C: Classes>(
 ///
 /// The time is that of the members on the chain of superclasses and of the references, times a logarithm; of a
 /// reference its own texts are compared once. Where what the class inherits was found in advance
-/// ([`Prepared`](crate::Prepared)), it is that of the references alone. It fails only if memory runs out.
+/// ([`Prepared`](crate::Prepared)), it is that of the references alone, with one look-up of the class of each. It fails
+/// only if memory runs out.
 pub fn guarded<'a, C: Classes>(
     alloc: Global,
     classes: &C,

@@ -8,7 +8,7 @@ use std::alloc::{AllocError, Global};
 use std::marker::Model;
 
 /// Classes that answer as others do, with what some of them inherit found in advance: [`guarded`](crate::guarded) takes
-/// no walk along a chain of superclasses for these.
+/// no walk along a chain of superclasses for these. It finds the class of each reference by [`Classes::place`].
 #[derive(Drop)]
 pub struct Prepared<'k, C: Classes> {
     classes: &'k C,
@@ -68,15 +68,27 @@ impl<'k, C: Classes> Classes for Prepared<'k, C> {
         self.classes.is_subclass(a, b)
     }
 
+    fn is_interface_at(&self, place: u16) -> bool {
+        self.classes.is_interface_at(place)
+    }
+
+    fn is_below(&self, a: u16, b: u16) -> bool {
+        self.classes.is_below(a, b)
+    }
+
     fn guarded_in_advance(
         &self,
         alloc: Global,
         class: &[u8],
         references: &[MemberRef<'_>],
     ) -> Result<Option<Vec<bool>>, AllocError> {
-        match self.inheritance.place(class) {
+        let classes = self.classes;
+        match self.inheritance.place(classes, class) {
             None => Ok(None),
-            Some(place) => Ok(Some(self.inheritance.guarded(alloc, place, references)?)),
+            Some(place) => {
+                let answers = self.inheritance.guarded(alloc, classes, place, references)?;
+                Ok(Some(answers))
+            }
         }
     }
 }

@@ -1,7 +1,8 @@
 //! Classes by rows of ancestors.
-ghost use Rattle.std.specs.Prelude.{◌≡◌, ℕ, ◌+◌, ◌^◌, ◌<◌, ◌≤◌, Some, IfOk, IfErr, length, slice_get, count_ones};
-ghost use Rattle.hierarchy.specs.Answer.{SubclassAnswer, outcome_of};
+ghost use Rattle.std.specs.Prelude.{◌≡◌, ℕ, ◌+◌, ◌^◌, ◌<◌, ◌≤◌, List, Some, IfOk, IfErr, length, slice_get, count_ones};
+ghost use Rattle.hierarchy.specs.Answer.{SubclassAnswer, outcome_of, yes_if};
 ghost use Rattle.hierarchy.specs.Class.{ClassFact};
+ghost use Rattle.hierarchy.specs.Places.{place_in};
 ghost use Rattle.hierarchy.specs.Summary.{facts_of};
 ghost use Rattle.hierarchy.specs.Faults.{FaultOf};
 ghost use Rattle.hierarchy.specs.Rules.{IsHierarchy};
@@ -127,6 +128,29 @@ impl<'s, 'a, S: BuildHasher> Rows<'s, 'a, S> {
         (at, looks)
     }
 
+    // Whether the class at the place `from` is that at the place `to` or stands below it, and how many entries of rows
+    // were looked at. False where a place is that of no class.
+    fn climb_at(&self, from: usize, to: usize) -> (bool, u32)
+        ensures answer { (a b : List ℕ) → place_in self.now a ≡ Some from → place_in self.now b ≡ Some to
+            → SubclassAnswer self.now a b (yes_if result.0) }
+        ensures looked { (a b : List ℕ) → place_in self.now a ≡ Some from → place_in self.now b ≡ Some to
+            → IsLookedUp self.now a b result.1 }
+    {
+        let depths = &self.rows.depths;
+        if from >= depths.len() || to >= depths.len() {
+            return (false, 0);
+        }
+        if from == to {
+            return (true, 0);
+        }
+        let (low, high) = (depths[from], depths[to]);
+        if low <= high {
+            return (false, 0);
+        }
+        let (above, looks) = self.above(from as u16, low - high);
+        (usize::from(above) == to, looks)
+    }
+
     /// Whether `a` is `b` or stands below it, as [`Classes::is_subclass`], and how many entries of rows were looked at:
     /// where both are in the list and `a` is the deeper, as many as the difference of their depths has binary digits 1,
     /// and otherwise none.
@@ -144,13 +168,8 @@ impl<'s, 'a, S: BuildHasher> Rows<'s, 'a, S> {
         let Some(to) = index.place(b) else {
             return (Answer::No, 0);
         };
-        let low = self.rows.depths[from];
-        let high = self.rows.depths[to];
-        if low <= high {
-            return (Answer::No, 0);
-        }
-        let (above, looks) = self.above(from as u16, low - high);
-        (Answer::yes_if(usize::from(above) == to), looks)
+        let (below, looks) = self.climb_at(from, to);
+        (Answer::yes_if(below), looks)
     }
 }
 
@@ -171,6 +190,14 @@ impl<'s, 'a, S: BuildHasher> Classes for Rows<'s, 'a, S> {
 
     fn is_subclass<'n>(&self, a: &'n [u8], b: &'n [u8]) -> Answer<'n> {
         self.climb(a, b).0
+    }
+
+    fn is_interface_at(&self, place: u16) -> bool {
+        self.index.is_interface_at(usize::from(place))
+    }
+
+    fn is_below(&self, a: u16, b: u16) -> bool {
+        self.climb_at(usize::from(a), usize::from(b)).0
     }
 
     fn guarded_in_advance(

@@ -1,11 +1,14 @@
 -- Classes with all that stand above them, each behind its superclass. Words of the code's own steps.
 use Rattle.std.specs.Prelude.{◌≡◌, ℕ, ◌<◌, List, [], ◌∷◌, map, slice_get, Option, Some, MatchOption}
-use Rattle.std.specs.BTreeMap.{BTreeMap}
+use Rattle.std.specs.BTreeMap.{BTreeMap, get}
 use Rattle.std.specs.Borrow.{Bor}
+use Rattle.std.specs.Option.{option_and_then}
+use Rattle.std.specs.Ordering.{nat_cmp}
 use Rattle.hierarchy.specs.declared.ancestry.Ancestry.{Ancestry}
 use Rattle.hierarchy.specs.declared.summary.Summary.{Summary}
-use Rattle.hierarchy.specs.private.Above.{class_above, number_of}
+use Rattle.hierarchy.specs.private.Above.{class_above}
 use Rattle.hierarchy.specs.Class.{ClassFact, class_of}
+use Rattle.hierarchy.specs.Places.{place_in}
 use Rattle.hierarchy.specs.Summary.{fact_of}
 
 -- classes as they are kept
@@ -26,15 +29,19 @@ abbrev pub AreInTurn : List ClassFact → List ClassFact → Option ClassFact �
 AreInTurn classes [] o = Unit {0}
 AreInTurn classes (c ∷ cs) o = IsOwn classes c × (class_above classes c ≡ first_or o cs) × AreInTurn classes cs o
 
+-- the place of the class of this name among some, from the places of these by their places in the list of all
+abbrev pub place_among : List ClassFact → BTreeMap ℕ ℕ → List ℕ → Option ℕ
+place_among classes places name = option_and_then (get nat_cmp places) (place_in classes name)
+
 -- each class, and no other, has a place, at which it stands
-pub record HavePlaces (all : List ClassFact) (places : BTreeMap (Bor (List ℕ)) ℕ) : Type 0 where
-  pub leads : (name : List ℕ) (p : ℕ) → number_of places name ≡ Some p → (c : ClassFact) × (slice_get all p ≡ Some c)
+pub record HavePlaces (classes all : List ClassFact) (places : BTreeMap ℕ ℕ) : Type 0 where
+  pub leads : (name : List ℕ) (p : ℕ) → place_among classes places name ≡ Some p → (c : ClassFact) × (slice_get all p ≡ Some c)
       × (c.name ≡ name)
-  pub exact : (p : ℕ) (c : ClassFact) → slice_get all p ≡ Some c → number_of places c.name ≡ Some p
+  pub exact : (p : ℕ) (c : ClassFact) → slice_get all p ≡ Some c → place_among classes places c.name ≡ Some p
 
 -- classes of a list, each behind the one that stands directly above it
 pub record IsAncestry (classes : List ClassFact) (a : Ancestry) : Type 0 where
-  pub places : HavePlaces (facts_at a.classes.items) a.places
+  pub places : HavePlaces classes (facts_at a.classes.items) a.places
   pub own : (p : ℕ) (c : ClassFact) → slice_get (facts_at a.classes.items) p ≡ Some c → IsOwn classes c
   pub order : (p : ℕ) (c d : ClassFact) → slice_get (facts_at a.classes.items) p ≡ Some c
       → class_above classes c ≡ Some d
@@ -53,6 +60,6 @@ abbrev pub EndsBelow : List ClassFact → Ancestry → List ClassFact → Type 0
 EndsBelow classes a cs = (o : Option ClassFact) × AreInTurn classes cs o × HasAny a o
 
 -- one more class is put behind the one that stands directly above it
-abbrev pub Adds : Ancestry → Ancestry → ClassFact → Type 0
-Adds old new c = (classes : List ClassFact) → IsAncestry classes old → IsOwn classes c
-    → HasAny old (class_above classes c) → IsAncestry classes new × Has new c
+abbrev pub Adds : List ClassFact → Ancestry → Ancestry → ClassFact → Type 0
+Adds classes old new c =
+    IsAncestry classes old → HasAny old (class_above classes c) → IsAncestry classes new × Has new c

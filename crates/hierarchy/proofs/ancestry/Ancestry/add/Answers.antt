@@ -4,6 +4,14 @@ use Rattle.hierarchy.specs.Summary.{fact_of}
 use Rattle.hierarchy.proofs.InOrder.{facts_more, turn_less}
 use Rattle.hierarchy.proofs.ancestry.Ancestry.add.Goals as goal
 
+pub push-requires : goal.push-requires
+push-requires g c =
+    let classes = g.C.Classes.content c.args.classes.now in
+    let class = c.in-Some.class in
+    let way = c.loop-class.invariant.way in
+    let left = c.pop.new.self.items in
+    record { own = (turn_less classes (facts_at left) (fact_of class.now) way.0 (subst (λ xs. AreInTurn classes xs way.0) (ap facts_at c.in-Some.ensures.items ∙ facts_more left class) way.1)).0 }
+
 pub loop-class-preserved : goal.loop-class-preserved
 loop-class-preserved g c =
     let classes = g.C.Classes.content c.args.classes.now in
@@ -11,5 +19,5 @@ loop-class-preserved g c =
     let way = c.loop-class.invariant.way in
     let left = c.pop.new.self.items in
     let turn = turn_less classes (facts_at left) (fact_of class.now) way.0 (subst (λ xs. AreInTurn classes xs way.0) (ap facts_at c.in-Some.ensures.items ∙ facts_more left class) way.1) in
-    let adds = c.in_ok-push.ensures classes c.loop-class.invariant.good turn.0 (subst (HasAny c.loop-class.self) (sym turn.1) way.2) in
+    let adds = c.in_ok-push.ensures c.loop-class.invariant.good (subst (HasAny c.loop-class.self) (sym turn.1) way.2) in
     record { good = adds.0; way = (Some (fact_of class.now), turn.2, adds.1) }

@@ -1,7 +1,7 @@
-use Rattle.std.proofs.Common.{◌∙◌, ap, sym, refl, map, get_or, List, ℕ}
-use Rattle.std.specs.Borrow.{Bor}
+use Rattle.std.proofs.Common.{◌∙◌, ap, sym, refl, map, get_or, List}
 use Rattle.std.specs.Str.{bytes_eq}
 use Rattle.std.specs.List.{list_any}
+use Rattle.hierarchy.specs.declared.name_key.NameKey.{NameKey}
 use Rattle.hierarchy.specs.declared.summary.Summary.{Summary}
 use Rattle.hierarchy.specs.Summary.{fact_of, facts_of}
 use Rattle.hierarchy.proofs.Names.{at_map}
@@ -15,18 +15,19 @@ first_twice-requires-clause-repeated g c =
     let d = c.index-classes-i.result in
     let name = c.index-classes-i.result.name.now in
     let keys = c.loop-i.names.keys in
-    let t = was_there (list_any (λ (k : Bor (List ℕ)). bytes_eq name k.now) keys) c.in_ok-added.added c.in_ok-added.ensures.added c.if-not-added.true in
-    let same = c.in_ok-added.ensures.keys ∙ kept_all (list_any (λ (k : Bor (List ℕ)). bytes_eq name k.now) keys) keys d.name t in
-    let here = ap (λ (s : Summary). list_any (λ (k : Bor (List ℕ)). bytes_eq s.name.now k.now) c.insert_full.new.self.keys) (sym c.index-classes-i.is) in
-    (fact_of (get_or xs c.loop-i.i d), at_map fact_of xs c.loop-i.i d c.loop-i-test.true, here ∙ ap (list_any (λ (k : Bor (List ℕ)). bytes_eq name k.now)) same ∙ t)
+    let t = was_there (list_any (λ (k : NameKey). bytes_eq name k.bytes.now) keys) c.in_ok-added.added c.in_ok-added.ensures.added c.if-not-added.true in
+    let same = c.in_ok-added.ensures.keys ∙ kept_all (list_any (λ (k : NameKey). bytes_eq name k.bytes.now) keys) keys (record { bytes = d.name }) t in
+    let here = ap (λ (s : Summary). list_any (λ (k : NameKey). bytes_eq s.name.now k.bytes.now) c.insert_full.new.self.keys) (sym c.index-classes-i.is) in
+    (fact_of (get_or xs c.loop-i.i d), at_map fact_of xs c.loop-i.i d c.loop-i-test.true, here ∙ ap (list_any (λ (k : NameKey). bytes_eq name k.bytes.now)) same ∙ t)
 
 pub loop-i-preserved : goal.loop-i-preserved
 loop-i-preserved g c =
     let name = c.index-classes-i.result.name in
+    let key : NameKey = record { bytes = name } in
     let keys = c.loop-i.names.keys in
-    let last = c.in_ok-added.ensures.keys ∙ added_last (list_any (λ (k : Bor (List ℕ)). bytes_eq name.now k.now) keys) c.in_ok-added.added keys name c.in_ok-added.ensures.added c.if-not-added.false in
-    let more = grown c.args.classes.now keys name c.loop-i.i c.index-classes-i.result c.loop-i-test.true c.loop-i.invariant.named (ap (λ (s : Summary). s.name.now) c.index-classes-i.is) in
-    record { named = ap (λ (ks : List (Bor (List ℕ))). map (λ k. k.now) ks) last ∙ more; distinct = c.in_ok-added.ensures.unique }
+    let last = c.in_ok-added.ensures.keys ∙ added_last (list_any (λ (k : NameKey). bytes_eq name.now k.bytes.now) keys) c.in_ok-added.added keys key c.in_ok-added.ensures.added c.if-not-added.false in
+    let more = grown c.args.classes.now keys key c.loop-i.i c.index-classes-i.result c.loop-i-test.true c.loop-i.invariant.named (ap (λ (s : Summary). s.name.now) c.index-classes-i.is) in
+    record { named = ap (λ (ks : List NameKey). map (λ k. k.bytes.now) ks) last ∙ more; distinct = c.in_ok-added.ensures.unique }
 
 pub returns-clause-ok : goal.returns-clause-ok
 returns-clause-ok g c = (refl, none_twice c.args.classes.now c.loop-i.names.keys (filled_all c.args.classes.now c.loop-i.names.keys c.loop-i.i c.loop-i-test.false c.loop-i.invariant.named) c.loop-i.invariant.distinct)

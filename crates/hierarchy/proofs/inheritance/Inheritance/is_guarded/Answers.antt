@@ -8,10 +8,12 @@ use Rattle.hierarchy.proofs.inheritance.Inheritance.is_guarded.Goals.{then-start
 use Rattle.hierarchy.proofs.inheritance.Inheritance.is_guarded.Goals as goal
 
 pub returns-in_default : goal.returns-in_default
-returns-in_default c classes a is at = no_place classes c.args.self.now is c.args.class a at (reference_of c.args.reference.now) (sym c.place.ensures ∙ c.in_default.is)
+returns-in_default g c a at = no_place (g.C.Classes.content c.args.classes.now) c.args.self.now c.requires.good c.args.class a at (reference_of c.args.reference.now) (sym c.place.ensures ∙ c.in_default.is)
 
 pub returns-then-start-class : goal.returns-then-start-class
-returns-then-start-class c classes a is at =
+returns-then-start-class g c a at =
+    let classes = g.C.Classes.content c.args.classes.now in
+    let is = c.requires.good in
     let h = c.args.self.now in
     let r = reference_of c.args.reference.now in
     let found = sym c.place.ensures ∙ c.in-Some.is in
@@ -24,23 +26,25 @@ returns-then-start-class c classes a is at =
     ]
 
 pub protected_in-requires-clause-there : goal.protected_in-requires-clause-there
-protected_in-requires-clause-there c =
-    let at = c.requires.good.1.ancestry.places.leads c.args.reference.now.class.now c.in-Some.start (sym c.place.ensures ∙ c.in-Some.is) in
-    within c.requires.good.0 c.args.self.now c.requires.good.1 c.in-Some.start at.0 at.1
+protected_in-requires-clause-there g c =
+    let at = c.requires.good.ancestry.places.leads c.args.reference.now.class.now c.in-Some.start (sym c.place.ensures ∙ c.in-Some.is) in
+    within (g.C.Classes.content c.args.classes.now) c.args.self.now c.requires.good c.in-Some.start at.0 at.1
 
 pub index-requires : goal.index-requires
-index-requires c =
-    let classes = c.requires.good.0 in
+index-requires g c =
+    let classes = g.C.Classes.content c.args.classes.now in
     let h = c.args.self.now in
     let r = reference_of c.args.reference.now in
-    let at = c.requires.good.1.ancestry.places.leads r.class c.in-Some.start (sym c.place.ensures ∙ c.in-Some.is) in
-    let told = subst (IsProtectedAt classes (facts_at h.ancestry.classes.items) r at.0.name) c.in-Some-protected_in.is (c.protected_in.ensures classes at.0 c.requires.good.1 at.1) in
+    let at = c.requires.good.ancestry.places.leads r.class c.in-Some.start (sym c.place.ensures ∙ c.in-Some.is) in
+    let told = subst (IsProtectedAt classes (facts_at h.ancestry.classes.items) r at.0.name) c.in-Some-protected_in.is (c.protected_in.ensures classes at.0 c.requires.good at.1) in
     let d = protected_some classes (facts_at h.ancestry.classes.items) r at.0.name c.in-Some-protected_in.place told in
-    let lt = within classes h c.requires.good.1 c.in-Some-protected_in.place d.0.class d.1 in
+    let lt = within classes h c.requires.good c.in-Some-protected_in.place d.0.class d.1 in
     omega (arith, lt, h.table.of.ok)
 
 pub returns-in-None : goal.returns-in-None
-returns-in-None c classes a is at =
+returns-in-None g c a at =
+    let classes = g.C.Classes.content c.args.classes.now in
+    let is = c.requires.good in
     let h = c.args.self.now in
     let r = reference_of c.args.reference.now in
     let found = sym c.place.ensures ∙ c.in-Some.is in
@@ -49,7 +53,9 @@ returns-in-None c classes a is at =
     (subst (IsProtectedAt classes (facts_at h.ancestry.classes.items) r d.0.name) c.in-None.is (c.protected_in.ensures classes d.0 is d.1))
 
 pub returns-in-Some-protected_in : goal.returns-in-Some-protected_in
-returns-in-Some-protected_in c classes a is at =
+returns-in-Some-protected_in g c a at =
+    let classes = g.C.Classes.content c.args.classes.now in
+    let is = c.requires.good in
     let h = c.args.self.now in
     let r = reference_of c.args.reference.now in
     let found = sym c.place.ensures ∙ c.in-Some.is in

@@ -1,13 +1,13 @@
-use Rattle.std.proofs.Common.{◌≡◌, ◌∙◌, Option, Some, None, List, ℕ, nat_eq, position, refl, sym, subst, inl, inr, arith}
+use Rattle.std.proofs.Common.{◌≡◌, ◌∙◌, Option, Some, None, List, ℕ, position, refl, sym, subst, inl, inr}
 use Rattle.std.specs.Cmp.Lexicographic.{same_text, other_text}
 use Rattle.std.specs.Str.{bytes_eq}
-use Rattle.std.proofs.lemmas.Bool.{eqb-true, eq-eqb}
 use Rattle.hierarchy.specs.World.{same}
 use Rattle.hierarchy.specs.Class.{ClassFact, IsSubclass}
-use Rattle.hierarchy.specs.Rows.{IsDepth, IsLookedUp}
+use Rattle.hierarchy.specs.Places.{place_in}
+use Rattle.hierarchy.specs.Rows.{IsLookedUp}
 use Rattle.hierarchy.proofs.Names.{no_place}
 use Rattle.hierarchy.proofs.Depths.{some_depth}
-use Rattle.hierarchy.proofs.RowsKept.{looked_absent, looked_same, looked_high, looked_deep, not_below_higher, not_below_absent, met, present_at, named_at, kept_depth}
+use Rattle.hierarchy.proofs.RowsKept.{looked_absent, looked_same, not_below_absent, present_at, named_at}
 use Rattle.hierarchy.proofs.rows.Rows.climb.Goals as goal
 
 none_there : {X : Type 0} (o : Option X) → ((x : X) → o ≡ Some x → ⊥) → o ≡ None
@@ -50,65 +50,14 @@ returns-in_default-place-clause-looked g c =
     let b = c.args.b.now in
     rw (← c.self.view_is) (looked_absent classes c.self.invariant.0 c.args.a.now b (inr (no_place (λ (d : ClassFact). bytes_eq b d.name) classes (absent classes b c.place-2.result c.place-2.ensures c.in_default-place.not-Some))))
 
-pub returns-then-low-high-clause-answer : goal.returns-then-low-high-clause-answer
-returns-then-low-high-clause-answer g c =
-    let classes = c.self.inside.index in
-    let rows = c.self.inside.rows in
-    let h = c.self.invariant.0 in
-    let r = c.self.invariant.1 in
-    let x = named_at classes h c.args.a.now c.in-Some.from (sym c.in-Some.ensures) in
-    let y = named_at classes h c.args.b.now c.in-Some-place.to (sym c.in-Some-place.ensures) in
-    let low = kept_depth classes h rows.depths.items rows.starts.items rows.entries.items r c.args.a.now c.in-Some.from c.index-low.result.now x c.index-low.ensures in
-    let high = kept_depth classes h rows.depths.items rows.starts.items rows.entries.items r c.args.b.now c.in-Some-place.to c.index-high.result.now y c.index-high.ensures in
-    rw (← c.self.view_is) (present_at classes h c.args.a.now c.in-Some.from x.0 x.1 x.2, not_below_higher classes h c.args.a.now c.args.b.now c.index-low.result.now c.index-high.result.now low high (other_text _ _ c.if-eq.ensures) c.if-low-high.true)
-
-pub returns-then-low-high-clause-looked : goal.returns-then-low-high-clause-looked
-returns-then-low-high-clause-looked g c =
-    let classes = c.self.inside.index in
-    let rows = c.self.inside.rows in
-    let h = c.self.invariant.0 in
-    let r = c.self.invariant.1 in
-    let x = named_at classes h c.args.a.now c.in-Some.from (sym c.in-Some.ensures) in
-    let y = named_at classes h c.args.b.now c.in-Some-place.to (sym c.in-Some-place.ensures) in
-    let low = kept_depth classes h rows.depths.items rows.starts.items rows.entries.items r c.args.a.now c.in-Some.from c.index-low.result.now x c.index-low.ensures in
-    let high = kept_depth classes h rows.depths.items rows.starts.items rows.entries.items r c.args.b.now c.in-Some-place.to c.index-high.result.now y c.index-high.ensures in
-    rw (← c.self.view_is) (looked_high classes h c.args.a.now c.args.b.now c.index-low.result.now c.index-high.result.now low high c.if-low-high.true)
-
-pub above-above-requires-clause-deep : goal.above-above-requires-clause-deep
-above-above-requires-clause-deep g c =
-    let classes = c.self.inside.index in
-    let rows = c.self.inside.rows in
-    let h = c.self.invariant.0 in
-    let r = c.self.invariant.1 in
-    let x = named_at classes h c.args.a.now c.in-Some.from (sym c.in-Some.ensures) in
-    let low = kept_depth classes h rows.depths.items rows.starts.items rows.entries.items r c.args.a.now c.in-Some.from c.index-low.result.now x c.index-low.ensures in
-    rw (← c.self.view_is) (x.0, c.index-low.result.now, x.1, subst (λ n. IsDepth classes n c.index-low.result.now) (sym x.2) low, omega arith)
-
 pub returns-clause-answer : goal.returns-clause-answer
 returns-clause-answer g c =
-    let classes = c.self.inside.index in
-    let rows = c.self.inside.rows in
-    let h = c.self.invariant.0 in
-    let r = c.self.invariant.1 in
-    let x = named_at classes h c.args.a.now c.in-Some.from (sym c.in-Some.ensures) in
-    let y = named_at classes h c.args.b.now c.in-Some-place.to (sym c.in-Some-place.ensures) in
-    let low = kept_depth classes h rows.depths.items rows.starts.items rows.entries.items r c.args.a.now c.in-Some.from c.index-low.result.now x c.index-low.ensures in
-    let high = kept_depth classes h rows.depths.items rows.starts.items rows.entries.items r c.args.b.now c.in-Some-place.to c.index-high.result.now y c.index-high.ensures in
-    let above = c.above-above.result.0 in
-    let to = c.in-Some-place.to in
-    let there = rw (← c.self.view_is) at c.above-above.ensures.there in
-    rw (← c.self.view_is, c.yes_if.ensures)
-    (met classes h c.args.a.now c.args.b.now c.index-low.result.now c.index-high.result.now low high c.in-Some.from above to (nat_eq c.from.result to) there x y
-    (λ p. sym c.from.ensures ∙ eqb-true c.from.result to p) (λ p. eq-eqb c.from.result to (c.from.ensures ∙ p)))
+    let from = subst (λ (cs : List ClassFact). place_in cs c.args.a.now ≡ Some c.in-Some.from) c.self.view_is (sym c.in-Some.ensures) in
+    let to = subst (λ (cs : List ClassFact). place_in cs c.args.b.now ≡ Some c.in-Some-place.to) c.self.view_is (sym c.in-Some-place.ensures) in
+    rw c.yes_if.ensures (c.climb_at-below.ensures.answer c.args.a.now c.args.b.now from to)
 
 pub returns-clause-looked : goal.returns-clause-looked
 returns-clause-looked g c =
-    let classes = c.self.inside.index in
-    let rows = c.self.inside.rows in
-    let h = c.self.invariant.0 in
-    let r = c.self.invariant.1 in
-    let x = named_at classes h c.args.a.now c.in-Some.from (sym c.in-Some.ensures) in
-    let y = named_at classes h c.args.b.now c.in-Some-place.to (sym c.in-Some-place.ensures) in
-    let low = kept_depth classes h rows.depths.items rows.starts.items rows.entries.items r c.args.a.now c.in-Some.from c.index-low.result.now x c.index-low.ensures in
-    let high = kept_depth classes h rows.depths.items rows.starts.items rows.entries.items r c.args.b.now c.in-Some-place.to c.index-high.result.now y c.index-high.ensures in
-    rw (← c.self.view_is) (looked_deep classes h c.args.a.now c.args.b.now c.index-low.result.now c.index-high.result.now low high c.above-above.result.1 c.if-low-high.false c.above-above.ensures.looked c.above-above.ensures.few)
+    let from = subst (λ (cs : List ClassFact). place_in cs c.args.a.now ≡ Some c.in-Some.from) c.self.view_is (sym c.in-Some.ensures) in
+    let to = subst (λ (cs : List ClassFact). place_in cs c.args.b.now ≡ Some c.in-Some-place.to) c.self.view_is (sym c.in-Some-place.ensures) in
+    c.climb_at-below.ensures.looked c.args.a.now c.args.b.now from to
