@@ -3,9 +3,9 @@ ghost use Rattle.std.specs.Prelude.{◌≡◌};
 
 use crate::fault::CodeFault;
 use crate::instruction::{Insn, Operands};
-use crate::meaning::{act, act_alone, made_index};
+use crate::meaning::{act, act_alone, act_by_parts, made_by_parts, made_index};
 use crate::operation::Act;
-use crate::reading::{read_insn, take_alone};
+use crate::reading::{read_insn, take_alone, take_parts};
 use layout::Cursor;
 use std::marker::Model;
 
@@ -65,8 +65,11 @@ impl<'a> Instructions<'a> {
         requires { HasInstruction self.old }
         ensures { StepsBy act_located by_act self.old (Some (Ok (self.old.at, result))) self.new }
     {
-        match take_alone(&mut self.cursor) {
-            Some(opcode) => act_alone(opcode),
+        if let Some(opcode) = take_alone(&mut self.cursor) {
+            return act_alone(opcode);
+        }
+        match take_parts(&mut self.cursor) {
+            Some((opcode, parts)) => act_by_parts(opcode, &parts),
             None => self.act_with_operands(),
         }
     }
@@ -89,8 +92,11 @@ impl<'a> Instructions<'a> {
         ensures { StepsBy (λ x. x) by_made self.old result self.new }
     {
         let at = self.cursor.at();
-        match take_alone(&mut self.cursor) {
-            Some(_) => Some(Ok((at, None))),
+        if take_alone(&mut self.cursor).is_some() {
+            return Some(Ok((at, None)));
+        }
+        match take_parts(&mut self.cursor) {
+            Some((opcode, parts)) => Some(Ok((at, made_by_parts(opcode, &parts)))),
             None => self.start_with_operands(),
         }
     }

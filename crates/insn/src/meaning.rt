@@ -4,6 +4,7 @@ ghost use Rattle.insn.specs.Code.{modified};
 ghost use Rattle.insn.specs.Instructions.{nothing};
 ghost use Rattle.insn.specs.Meanings.{act, made_index, element_of};
 ghost use Rattle.insn.specs.private.Parts.{AreParts, IsActOf};
+ghost use Rattle.insn.specs.private.Taken.{Each};
 ghost use Rattle.insn.specs.Views.{view, operands_view, act_view};
 
 use crate::instruction::{Insn, Operands, modified};
@@ -28,6 +29,13 @@ pub(crate) fn act_alone<'a>(opcode: Opcode) -> Act<'a>
     act_of(opcode.meaning(), &Parts::none())
 }
 
+/// The meaning of an instruction of this opcode whose operands have these parts.
+pub(crate) fn act_by_parts<'a>(opcode: Opcode, parts: &Parts<'a>) -> Act<'a>
+    ensures { Each opcode parts.now (λ i. act_view result ≡ act i) }
+{
+    act_of(opcode.meaning(), parts)
+}
+
 /// The index of the class of which an instruction makes an object, where it is a `new` (JVMS 6.5, new). Takes no
 /// memory.
 pub fn made_index(insn: &Insn<'_>) -> Option<u16>
@@ -39,7 +47,18 @@ pub fn made_index(insn: &Insn<'_>) -> Option<u16>
     }
 }
 
+/// The index of the class of which an instruction of this opcode and these parts makes an object, where it is a `new`.
+pub(crate) fn made_by_parts(opcode: Opcode, parts: &Parts<'_>) -> Option<u16>
+    ensures { Each opcode parts.now (λ i. result ≡ made_index (act i)) }
+{
+    match opcode {
+        Opcode::New => Some(parts.index),
+        _ => None,
+    }
+}
+
 /// The act of this meaning with operands of these parts.
+#[inline(always)]
 fn act_of<'a>(meaning: Meaning, parts: &Parts<'a>) -> Act<'a>
     ensures { IsActOf meaning parts.now (act_view result) }
 {
@@ -104,7 +123,7 @@ fn act_of<'a>(meaning: Meaning, parts: &Parts<'a>) -> Act<'a>
 
 /// The parts of operands that acts take; a part that an instruction does not have counts as 0.
 #[derive(Clone, Copy)]
-struct Parts<'a> {
+pub(crate) struct Parts<'a> {
     /// The number of a local variable.
     local: u16,
     /// An index into the constant pool.
@@ -118,12 +137,13 @@ struct Parts<'a> {
 }
 
 impl<'a> Parts<'a> {
-    ghost use Rattle.insn.specs.Instructions.{nothing};
+    ghost use Rattle.insn.specs.Instructions as instructions;
     ghost use Rattle.insn.specs.private.Parts.{AreParts};
+    ghost use Rattle.insn.specs.private.Taken.{ArePartsOf};
 
     /// The parts of an instruction without operands.
     fn none() -> Parts<'a>
-        ensures { AreParts result nothing }
+        ensures { AreParts result instructions.nothing }
     {
         Parts {
             local: 0,
@@ -131,6 +151,46 @@ impl<'a> Parts<'a> {
             byte: 0,
             offset: 0,
             targets: Targets::Offsets(&[]),
+        }
+    }
+
+    /// The parts of an instruction with an index of two bytes.
+    pub(crate) fn of_index(index: u16) -> Parts<'a>
+        ensures { ArePartsOf result (instructions.index index) }
+    {
+        Parts {
+            index,
+            ..Parts::none()
+        }
+    }
+
+    /// The parts of an instruction with an index of one byte.
+    pub(crate) fn of_constant(index: u8) -> Parts<'a>
+        ensures { ArePartsOf result (instructions.constant index) }
+    {
+        Parts {
+            index: u16::from(index),
+            ..Parts::none()
+        }
+    }
+
+    /// The parts of an instruction with a local variable of one byte.
+    pub(crate) fn of_local(local: u8) -> Parts<'a>
+        ensures { ArePartsOf result (instructions.local local) }
+    {
+        Parts {
+            local: u16::from(local),
+            ..Parts::none()
+        }
+    }
+
+    /// The parts of a branch of two bytes.
+    pub(crate) fn of_offset(offset: i16) -> Parts<'a>
+        ensures { ArePartsOf result (instructions.branch offset) }
+    {
+        Parts {
+            offset: i32::from(offset),
+            ..Parts::none()
         }
     }
 }

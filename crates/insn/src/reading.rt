@@ -3,10 +3,12 @@ ghost use Rattle.std.specs.Prelude.{◌≡◌, ◌≤◌, ◌-◌, Some, length,
 ghost use Rattle.insn.specs.Code.{ReadsInstruction, TakesAlone};
 ghost use Rattle.insn.specs.Faults.{Decodes, or_cut};
 ghost use Rattle.insn.specs.Instructions.{operands_at, behind_opcode, instruction_at, wide_at, widened, widened_opcode, invoke_interface_at, invoke_dynamic_at, table_switch_at, table_behind, lookup_switch_at, pairs_behind, keys, rising, follows};
+ghost use Rattle.insn.specs.private.Taken.{ReadsParts, TakesParts};
 ghost use Rattle.insn.specs.Views.{operands_view, table_switch_view, lookup_switch_view, view};
 
 use crate::fault::CodeFault;
 use crate::instruction::{Insn, Operands};
+use crate::meaning::Parts;
 use crate::opcode::Opcode;
 use crate::switch::{LookupSwitch, Pairs, TableSwitch};
 use crate::table::Form;
@@ -316,4 +318,34 @@ pub(crate) fn take_alone(cursor: &mut Cursor<'_>) -> Option<Opcode>
     };
     *cursor = step;
     Some(opcode)
+}
+
+/// The parts of the operands behind an opcode of this form, where they are one number of at most two bytes.
+#[inline(always)]
+fn parts_behind<'a>(cursor: &mut Cursor<'_>, form: Form) -> Option<Parts<'a>>
+    ensures { ReadsParts form cursor.old cursor.new result }
+{
+    match form {
+        Form::Index => Some(Parts::of_index(cursor.u2().ok()?)),
+        Form::Branch => Some(Parts::of_offset(cursor.u2().ok()?.cast_signed())),
+        Form::Local => Some(Parts::of_local(cursor.u1().ok()?)),
+        Form::Constant => Some(Parts::of_constant(cursor.u1().ok()?)),
+        _ => None,
+    }
+}
+
+/// Goes behind the instruction in front and answers its opcode and the parts of its operands, where one index, local
+/// variable or offset of at most two bytes is all that stands behind the opcode; otherwise the cursor stays where it is.
+#[inline(always)]
+pub(crate) fn take_parts<'a>(cursor: &mut Cursor<'_>) -> Option<(Opcode, Parts<'a>)>
+    ensures { TakesParts cursor.old cursor.new result }
+{
+    let mut step = cursor.fork();
+    let Ok(number) = step.u1() else {
+        return None;
+    };
+    let opcode = Opcode::from_number(number)?;
+    let parts = parts_behind(&mut step, opcode.form())?;
+    *cursor = step;
+    Some((opcode, parts))
 }
