@@ -1,3 +1,5 @@
+pub mod PlacedClasses
+pub mod Filled
 pub mod Growing
 pub mod NumberParts
 pub mod Decoded
@@ -13,3 +15,4 @@ pub mod LoadedTypes
 pub mod Tables
 pub mod DecidedTypes
 pub mod MethodReadings
+pub mod RecentPlaces

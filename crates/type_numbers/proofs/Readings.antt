@@ -19,14 +19,6 @@ use Rattle.type_numbers.specs.Numbers.{Numbering, IsNumberOf, Extends}
 use Rattle.type_numbers.specs.private.Readings.{IsReading, AreReadings, reading_in, text_type, type_in}
 use Rattle.type_numbers.proofs.LawsOfNumbers.{number_stays}
 
-get_or-nil : (k : ℕ) → reading_in [] k ≡ Unread
-get_or-nil zero = refl
-get_or-nil (suc k) = refl
-
-pub record AreUnread (readings : List Reading) (count : ℕ) : Type 0 where
-  pub long : length readings ≡ count
-  pub unread : (k : ℕ) → reading_in readings k ≡ Unread
-
 -- what is at one index, and not at the others, once it is noted
 pub reading_noted : (readings : List Reading) (i k : ℕ) (r : Reading) → i < length readings → (nat_eq k i ≡ true → reading_in (slice_set readings i r) k ≡ r) × (nat_eq k i ≡ false → reading_in (slice_set readings i r) k ≡ reading_in readings k)
 reading_noted readings i k r h =
@@ -66,21 +58,6 @@ number_read s (Some t) n h = h
 pub nothing_read : (s : Numbering) (t : Option VerificationType) → IsReading s t Nothing → IsNumberOf s None t
 nothing_read s None h = tt
 nothing_read s (Some t) h = h
-
-unread_more : (readings : List Reading) → ((k : ℕ) → reading_in readings k ≡ Unread) → (k : ℕ) → reading_in (readings ++ Unread ∷ []) k ≡ Unread
-unread_more [] h zero = refl
-unread_more [] h (suc k) = get_or-nil k
-unread_more (x ∷ xs) h zero = h zero
-unread_more (x ∷ xs) h (suc k) = unread_more xs (λ j. h (suc j)) k
-
-pub one_more : (readings more : List Reading) (count : ℕ) → AreUnread readings count → more ≡ readings ++ Unread ∷ [] → AreUnread more (count + 1)
-one_more readings more count h e = record {
-  long = ap length e ∙ length-append readings (Unread ∷ []) ∙ ap (λ n. n + 1) h.long;
-  unread = λ k. ap (λ rs. reading_in rs k) e ∙ unread_more readings h.unread k;
-}
-
-pub none_read : (k : ℕ) → reading_in [] k ≡ Unread
-none_read k = get_or-nil k
 
 -- what was read stays so where more types have numbers
 pub reading_stays : (old new : Numbering) → Extends old new → (t : Option VerificationType) (r : Reading) → IsReading old t r → IsReading new t r

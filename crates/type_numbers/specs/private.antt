@@ -3,3 +3,4 @@ pub mod Readings
 pub mod Entries
 pub mod Deciding
 pub mod Places
+pub mod RecentPlaces

@@ -10,6 +10,7 @@
 //! - `method_numbers`: the types that descriptors of methods name, each text read once.
 //! - `named_constant`: what a constant is to the instructions that name it.
 //! - `parts`: the parts of a number.
+//! - `recent_places`: the places of classes whose names were asked for a short while ago.
 //! - `text_numbers`: the types that texts name, each text read once.
 //! - `texts`: the constants that lead to texts.
 //! - `type_numbers`: the numbers that the types of one class have.
@@ -23,6 +24,7 @@ mod loaded_numbers;
 mod method_numbers;
 mod named_constant;
 mod parts;
+mod recent_places;
 mod text_numbers;
 mod texts;
 mod type_numbers;

@@ -98,11 +98,8 @@ impl DescriptorNumbers {
     pub fn new(alloc: Global, pool: &Pool<'_>) -> Result<DescriptorNumbers, AllocError>
         ensures { IfOk result (λ d. (s : Numbering) → AreDescriptors s pool.now d) }
     {
-        let count = pool.constants().len() + 1;
-        let mut readings = Vec::with_capacity(alloc, count)?;
-        for _index in 0..count {
-            readings.push(MethodReading::Unread)?;
-        }
+        let mut readings = Vec::new(alloc);
+        readings.resize(pool.constants().len() + 1, MethodReading::Unread)?;
         Ok(DescriptorNumbers {
             alloc,
             readings,

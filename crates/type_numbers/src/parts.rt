@@ -1,5 +1,5 @@
 //! The parts of a number: a tag, a number of dimensions, and two bytes that tell types of one tag apart.
-ghost use Rattle.std.specs.Prelude.{◌≡◌, ◌+◌, ◌*◌, ◌/◌, ◌%◌, nat_lt, Some};
+ghost use Rattle.std.specs.Prelude.{◌≡◌, ◌+◌, ◌*◌, ◌/◌, ◌%◌, ◌&&◌, nat_eq, nat_lt, Some};
 ghost use Rattle.type_numbers.specs.Numbers.{absent_number, numbered};
 ghost use Rattle.type_numbers.specs.Decoding.{element_at};
 
@@ -49,6 +49,13 @@ pub fn present_number(dims: u8, place: u16) -> u32
         rest: place,
     }
     .number()
+}
+
+/// Whether a number with these parts is that of a class in the hierarchy.
+pub fn is_present(parts: Parts) -> bool
+    ensures { result ≡ (nat_eq parts.tag 7 && nat_eq parts.dims 0) }
+{
+    parts.tag == 7 && parts.dims == 0
 }
 
 /// The number of an object that the `new` at this offset makes.

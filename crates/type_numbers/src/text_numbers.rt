@@ -62,11 +62,8 @@ impl TextNumbers {
         ensures unread { IfOk result (λ t. (s : Numbering) → AreReadings s pool.now t) }
         ensures form { IfOk result (λ t. t.form ≡ form) }
     {
-        let count = pool.constants().len() + 1;
-        let mut readings = Vec::with_capacity(alloc, count)?;
-        for _index in 0..count {
-            readings.push(Reading::Unread)?;
-        }
+        let mut readings = Vec::new(alloc);
+        readings.resize(pool.constants().len() + 1, Reading::Unread)?;
         Ok(TextNumbers { form, readings })
     }
 

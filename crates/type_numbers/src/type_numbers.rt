@@ -2,7 +2,8 @@
 
 use crate::absent_names::AbsentNames;
 use crate::deciding::decided;
-use crate::parts::{Parts, absent_number, element_at, present_number, uninit_number};
+use crate::parts::{Parts, absent_number, element_at, is_present, present_number, uninit_number};
+use crate::recent_places::RecentPlaces;
 use frames::{VType, assignable, pack};
 use hierarchy::{Answer, Classes};
 use names::Base;
@@ -24,14 +25,14 @@ pub struct TypeNumbers<'c, 'n, C: Classes> {
     absent: AbsentNames<'n>,
     /// The names in the hierarchy that have numbers, by their places.
     present: BTreeMap<u16, &'n [u8]>,
+    /// The places of the names that were asked for last.
+    recent: RecentPlaces<'n>,
 }
 
 impl<'c, 'n, C: Classes> Model for TypeNumbers<'c, 'n, C> {
-    ghost use Rattle.std.specs.Prelude.{◌≡◌, ℕ, List, Some, map, option_map};
-    ghost use Rattle.std.specs.BTreeMap.{get};
-    ghost use Rattle.std.specs.Ordering.{nat_cmp};
-    ghost use Rattle.hierarchy.specs.Places.{place_in};
+    ghost use Rattle.std.specs.Prelude.{map};
     ghost use Rattle.type_numbers.specs.Numbers.{Numbering};
+    ghost use Rattle.type_numbers.specs.private.RecentPlaces.{KeepPlaces};
 
     ghost Value = { Numbering };
 
@@ -41,16 +42,15 @@ impl<'c, 'n, C: Classes> Model for TypeNumbers<'c, 'n, C> {
       present = map (λ e. (e.0, e.1.now)) t.present.entries;
     } };
 
-    ghost invariant = { λ t. (place : ℕ) (name : List ℕ)
-        → option_map (λ n. n.now) (get nat_cmp t.present place) ≡ Some name
-        → place_in (C.content t.classes.now) name ≡ Some place };
+    ghost invariant = { λ t. KeepPlaces (C.content t.classes.now) t.present t.recent };
 }
 
 impl<'c, 'n, C: Classes> TypeNumbers<'c, 'n, C> {
-    ghost use Rattle.std.specs.Prelude.{◌≡◌, ◌-◌, ◌≤◌, [], ℕ, Some, IfOk, option_map};
+    ghost use Rattle.std.specs.Prelude.{◌≡◌, ◌-◌, ◌≤◌, [], ℕ, true, List, Some, IfOk, option_map};
     ghost use Rattle.names.specs.Descriptors.{base_of, dimensioned};
-    ghost use Rattle.hierarchy.specs.Answer.{outcome_of};
-    ghost use Rattle.frames.specs.Assignable.{type_answer};
+    ghost use Rattle.hierarchy.specs.Answer.{outcome_of, yes};
+    ghost use Rattle.hierarchy.specs.Places.{place_in};
+    ghost use Rattle.frames.specs.Assignable.{class_answer, type_answer};
     ghost use Rattle.frames.specs.VerificationType.{VerificationType, array, type_of};
     ghost use Rattle.type_numbers.specs.Numbers.{class_number, IsNoted, IsNumber, IsGiven, Extends};
     ghost use Rattle.type_numbers.specs.Decoding.{name_at, type_with, type_at};
@@ -65,6 +65,7 @@ impl<'c, 'n, C: Classes> TypeNumbers<'c, 'n, C> {
             classes,
             absent: AbsentNames::new(alloc),
             present: BTreeMap::new(alloc),
+            recent: RecentPlaces::new(),
         }
     }
 
@@ -99,7 +100,7 @@ impl<'c, 'n, C: Classes> TypeNumbers<'c, 'n, C> {
         ensures noted { IfOk result (λ _. IsNoted self.new name.entry.now) }
         ensures kept { Extends self.old self.new }
     {
-        match self.classes.place(name) {
+        match self.recent.place(self.classes, name) {
             Some(place) => {
                 self.present.insert(place, name)?;
                 Ok(present_number(dims, place))
@@ -171,7 +172,8 @@ impl<'c, 'n, C: Classes> TypeNumbers<'c, 'n, C> {
     /// Whether a value of the type of one number may stand where one of the type of another is wanted: the answer of
     /// [`assignable`](frames::assignable) for the types. Takes no memory.
     ///
-    /// The names of two classes are looked at only where the numbers differ and leave the answer to the classes.
+    /// The names of two classes are looked at only where their numbers and their places in the hierarchy do not tell
+    /// that it may.
     pub fn assignable(&self, from: u32, to: u32) -> Answer<'n>
         requires from { IsGiven self.now from }
         requires to { IsGiven self.now to }
@@ -183,8 +185,31 @@ impl<'c, 'n, C: Classes> TypeNumbers<'c, 'n, C> {
         }
         match decided(Parts::of(from), Parts::of(to)) {
             Some(holds) => Answer::yes_if(holds),
-            None => self.types_assignable(from, to),
+            None => self.classes_assignable(from, to),
         }
+    }
+
+    /// Whether one class of the hierarchy stands below another one, or that one is an interface, by their places.
+    fn stands_below(&self, from: u16, to: u16) -> bool
+        ensures { (x y : List ℕ) → place_in self.now.classes x ≡ Some from → place_in self.now.classes y ≡ Some to
+            → result ≡ true → class_answer self.now.classes x y ≡ yes }
+    {
+        self.classes.is_interface_at(to) || self.classes.is_below(from, to)
+    }
+
+    /// The answer for the types of two numbers that is a question about classes: by the places of two classes in the
+    /// hierarchy where these say yes, and otherwise by the types.
+    fn classes_assignable(&self, from: u32, to: u32) -> Answer<'n>
+        requires from { IsGiven self.now from }
+        requires to { IsGiven self.now to }
+        ensures { (s t : VerificationType) → IsNumber self.now from s → IsNumber self.now to t
+            → outcome_of result ≡ type_answer self.now.classes s t }
+    {
+        let (one, other) = (Parts::of(from), Parts::of(to));
+        if is_present(one) && is_present(other) && self.stands_below(one.rest, other.rest) {
+            return Answer::Yes;
+        }
+        self.types_assignable(from, to)
     }
 
     /// The answer for the types of two numbers.
