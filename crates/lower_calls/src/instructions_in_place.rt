@@ -28,6 +28,8 @@ enum Asked<'a> {
     Lacks(VType<'a>),
     /// Whether an `int` is stored to the last local variable.
     Stores,
+    /// Whether the constant of a constructor is no field of the class itself, and asks for no bootstrap method.
+    NamesMethod,
     /// Whether the class is K.
     IsOfK,
 }
@@ -99,6 +101,14 @@ fn constructs<'a, C: Classes>(
     Ok(constructs_own(&env.method, &CONSTRUCT, &named, &frame))
 }
 
+/// Whether the constant of the constructor is no field of the class itself, and asks for no bootstrap method.
+fn names_method<'a, C: Classes>(alloc: Global, env: &Env<'_, '_, 'a, C>) -> Judged<'a> {
+    let (method, index) = (&env.method, 9);
+    let mut constants = ClassConstants::new(alloc, method.class, env.classes);
+    let own = constants.sets_own(method, index)?;
+    Ok(!own && constants.members.is_bootstrapped(method, index)?)
+}
+
 /// Whether the frame with this type on the stack lacks the one operand that a call of `clone` of Object takes.
 fn lacks<'a, C: Classes>(alloc: Global, env: &Env<'_, '_, 'a, C>, object: VType<'a>) -> Judged<'a> {
     let mut constants = ClassConstants::new(alloc, env.method.class, env.classes);
@@ -148,6 +158,7 @@ fn ask_in<'a, C: Classes>(
         Asked::Constructs(object) => constructs(alloc, env, object),
         Asked::Lacks(object) => lacks(alloc, env, object),
         Asked::Stores => stores(alloc, env),
+        Asked::NamesMethod => names_method(alloc, env),
         Asked::IsOfK => Ok(own_class(&env.method) == b"K".as_slice()),
     };
     match judged {
@@ -222,6 +233,7 @@ fn own_objects(rt: HostRuntime) {
     let alloc = rt.alloc();
     assert!(rt; ask(alloc, &CONSTRUCTING, Asked::Constructs(VType::UninitThis)) == Ok(true));
     assert!(rt; ask(alloc, &CONSTRUCTING, Asked::Constructs(VType::Uninit(0))) == Ok(false));
+    assert!(rt; ask(alloc, &CONSTRUCTING, Asked::NamesMethod) == Ok(true));
     assert!(rt; ask(alloc, &CONSTRUCTING, Asked::IsOfK) == Ok(true));
 }
 
@@ -266,5 +278,7 @@ fn memory_runs_out_for_members(rt: HostRuntime) {
     let told = ask(rt.alloc(), &CLONING, Asked::Clones(VType::Class(b"K")));
     assert!(rt; told == Ok(true) || told == Err(OUT_OF_MEMORY));
     let told = ask(rt.alloc(), &CLONING, Asked::Lacks(VType::Int));
+    assert!(rt; told == Ok(true) || told == Err(OUT_OF_MEMORY));
+    let told = ask(rt.alloc(), &CONSTRUCTING, Asked::NamesMethod);
     assert!(rt; told == Ok(true) || told == Err(OUT_OF_MEMORY));
 }

@@ -24,7 +24,8 @@ pub struct ClassConstants<'k, 'c, 'a, C: Classes> {
 }
 
 impl<'k, 'c, 'a, C: Classes> ClassConstants<'k, 'c, 'a, C> {
-    ghost use Rattle.rules.specs.Naming.{IsNamed};
+    ghost use Rattle.pool.specs.ConstantMeanings.{field_at};
+    ghost use Rattle.rules.specs.Naming.{IsNamed, is_own};
 
     /// The constants of a class among these classes, before any of them is looked up.
     pub fn new(
@@ -38,6 +39,17 @@ impl<'k, 'c, 'a, C: Classes> ClassConstants<'k, 'c, 'a, C> {
             types: ConstantTypes::new(alloc, &class.constant_pool),
             members: Members::new(alloc, class, classes),
         }
+    }
+
+    /// Whether `putfield` with the Fieldref at an index, in this method of the class, sets a field of the class itself
+    /// in a constructor. The only refusal: memory ran out.
+    pub fn sets_own(&mut self, method: &CodeMethod<'_, 'a>, index: u16) -> Result<bool, AllocError>
+        requires { self.old.members.class ≡ method.now.class.now }
+        ensures same { self.new.members ≡ self.old.members }
+        ensures own { let m = method_view method.now in
+            IfOk result (λ b. b ≡ is_own m (field_at m.constant_pool index)) }
+    {
+        self.members.sets_own(&mut self.types, method, index)
     }
 
     /// Looks up the constant that an instruction of the class with this act names. The only refusal: memory ran out.

@@ -9,7 +9,7 @@
 //! - `working`: the running frame; `slots`: stores to its local variables.
 //! - `environment`: the method, its instructions, and the classes around it.
 //! - `reason`: why an instruction is refused; `merging`: the reasons of two judgements taken together.
-//! - `ways`: where an instruction goes, whether it is plain, and whether it leaves the locals as they are.
+//! - `ways`: where an instruction goes, and whether it is plain.
 //! - `expected_types`: the expected types of all that an instruction takes; `unmet_expectations`: the first of them that
 //!   a frame does not meet, and the first of which that is not known.
 //!
@@ -48,7 +48,6 @@
 //!   `Reason`.
 //! - `specs/After.antt`: the frame after; `specs/Replacing.antt`: an object whose type is replaced in it.
 //! - `specs/Ways.antt`: where instructions go; `specs/WayLaws.antt`: that their acts alone decide it.
-//! - `specs/Taken.antt`: how many items instructions take, and which stay.
 //! - `specs/ExpectedTypes.antt`: the expected types of all that an instruction takes; `specs/Unmet.antt`: the first of
 //!   them that a frame does not meet; `specs/UnmetLaws.antt`: that it is found.
 //! - `specs/Applied.antt`, `specs/Outcomes.antt`: the answers of `apply`, and of the other calls.

@@ -3,7 +3,7 @@
 ghost use Rattle.std.specs.Prelude.{◌≡◌};
 
 use crate::guards::{Guards, names_own};
-use crate::naming::{Named, named_by};
+use crate::naming::{Named, is_bootstrapped, is_own, named_by};
 use classfile::{Bootstraps, ClassFile, CodeMethod, OwnFields};
 use hierarchy::Classes;
 use insn::Act;
@@ -40,8 +40,10 @@ impl<'k, 'c, 'a, C: Classes> Members<'k, 'c, 'a, C> {
     ghost use Rattle.hierarchy.specs.Nearest.{MemberReference, is_guarded};
     ghost use Rattle.insn.specs.Views.{act_view};
     ghost use Rattle.rules.specs.Bodies.{method_view};
-    ghost use Rattle.rules.specs.Guards.{AreGuards, IsReference, own_name};
-    ghost use Rattle.rules.specs.Naming.{IsNamed};
+    ghost use Rattle.pool.specs.ConstantMeanings.{constant_at, field_at};
+    ghost use Rattle.rules.specs.Constants.{is_bootstrapped};
+    ghost use Rattle.rules.specs.Guards.{IsReference, own_name};
+    ghost use Rattle.rules.specs.Naming.{IsNamed, is_own};
 
     /// The members of a class among classes, none of which was asked for yet.
     pub fn new(alloc: Global, class: &'c ClassFile<'a>, classes: &'k C) -> Members<'k, 'c, 'a, C>
@@ -80,15 +82,41 @@ impl<'k, 'c, 'a, C: Classes> Members<'k, 'c, 'a, C> {
         )
     }
 
-    // The guards, which are taken out of here, or made where they are not there.
-    fn take_guards(&mut self) -> Result<Guards, AllocError>
+    /// Whether `putfield` with the Fieldref at an index, in this method of the class, sets a field of the class itself
+    /// in a constructor. The only refusal: memory ran out.
+    pub fn sets_own(
+        &mut self,
+        constants: &mut ConstantTypes<'_, 'a>,
+        method: &CodeMethod<'_, 'a>,
+        index: u16,
+    ) -> Result<bool, AllocError>
+        requires constants { constants.old ≡ method.now.class.now.constant_pool }
+        requires class { self.old.class ≡ method.now.class.now }
         ensures same { self.new ≡ self.old }
-        ensures guards { IfOk result (AreGuards self.old.classes self.old.class) }
+        ensures same_constants { constants.new ≡ constants.old }
+        ensures own { let m = method_view method.now in
+            IfOk result (λ b. b ≡ is_own m (field_at m.constant_pool index)) }
     {
-        match self.guards.take() {
-            Some(guards) => Ok(guards),
-            None => Guards::new(self.alloc, self.class, self.classes),
+        if !method.is_init {
+            return Ok(false);
         }
+        let field = constants.field_constant(index)?;
+        is_own(&mut self.fields, method, index, field)
+    }
+
+    /// Whether the class has a bootstrap method for the constant at an index that this method of it may use; true for a
+    /// constant that is neither a Dynamic nor an InvokeDynamic. The only refusal: memory ran out.
+    pub fn is_bootstrapped(
+        &mut self,
+        method: &CodeMethod<'_, 'a>,
+        index: u16,
+    ) -> Result<bool, AllocError>
+        requires { self.old.class ≡ method.now.class.now }
+        ensures same { self.new ≡ self.old }
+        ensures found { let m = method_view method.now in
+            IfOk result (λ b. b ≡ is_bootstrapped m (constant_at m.constant_pool index)) }
+    {
+        is_bootstrapped(&mut self.bootstraps, method, index)
     }
 
     /// Whether the constant at an index names a guarded member, if it is a field or a method of a class: a member that
@@ -101,7 +129,10 @@ impl<'k, 'c, 'a, C: Classes> Members<'k, 'c, 'a, C> {
         if names_own(self.class, index) {
             return Ok(false);
         }
-        let guards = self.take_guards()?;
+        if let Some(guards) = &self.guards {
+            return Ok(guards.get(index));
+        }
+        let guards = Guards::new(self.alloc, self.class, self.classes)?;
         let answer = guards.get(index);
         self.guards = Some(guards);
         Ok(answer)

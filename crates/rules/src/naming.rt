@@ -127,7 +127,7 @@ impl<'a> Named<'a> {
 }
 
 /// Whether the method is a constructor, and its class declares the field that the Fieldref at an index names.
-fn is_own<'a>(
+pub fn is_own<'a>(
     fields: &mut OwnFields<'_, 'a>,
     method: &CodeMethod<'_, 'a>,
     index: u16,
@@ -160,7 +160,7 @@ fn bootstrap_of(pool: &Pool<'_>, index: u16) -> Option<u16>
 
 /// Whether the class has a bootstrap method for the constant at an index that may be used. Where such constants are
 /// refused, no bootstrap method is looked at.
-fn is_bootstrapped(
+pub fn is_bootstrapped(
     bootstraps: &mut Bootstraps<'_, '_>,
     method: &CodeMethod<'_, '_>,
     index: u16,
