@@ -60,11 +60,11 @@ uses_none m (acts.PutField i) e = cc
 uses_none m (acts.InvokeVirtual i) e = cc
 uses_none m a e = refl
 
-not_last : (b last : Bool) → last ≡ false → (b && last) ≡ false
+pub not_last : (b last : Bool) → last ≡ false → (b && last) ≡ false
 not_last true last e = e
 not_last false last e = refl
 
-no_end : (b c : Bool) → b ≡ false → c ≡ false → least ((reason 71, b) ∷ (reason 75, c) ∷ []) ≡ None
+pub no_end : (b c : Bool) → b ≡ false → c ≡ false → least ((reason 71, b) ∷ (reason 75, c) ∷ []) ≡ None
 no_end true c e h = cc
 no_end false true e h = cc
 no_end false false e h = refl

@@ -1,15 +1,29 @@
 -- Objects on which members are used, by their numbers.
-use Rattle.std.proofs.Common.{◌≡◌, ◌∙◌, ℕ, zero, suc, true, false, List, [], ◌∷◌, Some, None, drop, slice_get, refl, sym, ap}
+use Rattle.std.proofs.Common.{◌≡◌, ◌∙◌, ℕ, Bool, zero, suc, true, false, if◌then◌else◌, List, [], ◌∷◌, Option, Some, None, option_map, drop, slice_get, refl, sym, ap, subst}
+use Rattle.std.specs.Prelude.{MatchOption}
+use Rattle.std.specs.Option.{option_and_then, option_map_or}
+use Rattle.names.specs.Descriptors.{FieldDescriptor}
+use Rattle.names.specs.ReferenceTypes.{ReferenceType, class_type, array_type}
+use Rattle.pool.specs.ConstantMeanings.{FieldConstant, field_at, MethodConstant, method_at}
+use Rattle.classfile.specs.Methods.{Method}
+use Rattle.classfile.specs.declared.class_file.ClassFile.{ClassFile}
+use Rattle.classfile.specs.declared.code_method.CodeMethod.{CodeMethod}
 use Rattle.hierarchy.specs.Class.{ClassFact}
 use Rattle.hierarchy.specs.Answer.{no}
+use Rattle.hierarchy.specs.Nearest.{MemberReference, is_guarded}
+use Rattle.insn.specs.Meanings.{Act}
+use Rattle.frames.specs.FrameFact.{FrameFact}
 use Rattle.frames.specs.VerificationType.{VerificationType, top, int, float, long, double, null, class, array, uninit_this, uninit}
 use Rattle.frames.specs.Assignable.{type_answer}
 use Rattle.type_numbers.specs.Numbers.{Numbering, IsNumber}
 use Rattle.type_numbers.specs.Decoding.{type_by, types_by}
 use Rattle.type_numbers.proofs.Decoded.{number_read}
 use Rattle.rules.specs.After.{top_of}
-use Rattle.rules.specs.Protected.{object_answer}
-use Rattle.verify.specs.private.pass.Objects.{is_array_type}
+use Rattle.rules.specs.Bodies.{method_view}
+use Rattle.rules.specs.Guards.{IsReference, Surroundings, Uses, field, method, own_name}
+use Rattle.rules.specs.declared.protected_members.Use as uses
+use Rattle.rules.specs.Protected.{Use, field_use, method_reference, method_use, member_conditions, object_answer, object_beneath, object_conditions, use_conditions, used_by}
+use Rattle.verify.specs.private.pass.Objects.{is_array_type, UsesAt, UsesNoneGuarded, UsesGuarded}
 
 -- the item that so many stand above
 pub item_is : (s : Numbering) (stack : List ℕ) (above n : ℕ) → Some n ≡ slice_get stack above → type_by s n ≡ top_of (drop above (types_by s stack))
@@ -51,3 +65,57 @@ other_answer classes name null e = refl
 other_answer classes name (class other) e = refl
 other_answer classes name uninit_this e = refl
 other_answer classes name (uninit offset) e = refl
+
+-- ---- the member that an instruction uses
+
+module _ (m : Method Act) (i : ℕ) (u : Use) where
+  pub field_used : (above : FieldConstant → List FieldDescriptor) → option_map (λ f. field_use (above f) f) (field_at m.constant_pool i) ≡ Some u → IsReference m.constant_pool i u.reference
+  field_used above e = by (field_at m.constant_pool i) refl e
+    where
+      by : (o : Option FieldConstant) → field_at m.constant_pool i ≡ o → option_map (λ f. field_use (above f) f) o ≡ Some u → IsReference m.constant_pool i u.reference
+      by None q h = absurd (cc)
+      by (Some f) q h =
+          let same : field_use (above f) f ≡ u = cc in
+          subst (λ (z : Use). IsReference m.constant_pool i z.reference) same (field f q)
+
+  called_by : (c : MethodConstant) → method_at m.constant_pool i ≡ Some c → (b : Bool) → c.interface ≡ b → (t : ReferenceType) → c.class ≡ t → method_use c b t ≡ Some u
+      → IsReference m.constant_pool i u.reference
+  called_by c q true own t of e = absurd (cc)
+  called_by c q false own (class_type name) of e =
+      let same : record { reference = method_reference name c; above = c.type.params } ≡ u = cc in
+      subst (λ (z : Use). IsReference m.constant_pool i z.reference) same (method c name q own of)
+  called_by c q false own (array_type component) of e = absurd (cc)
+
+  pub method_used : option_and_then (λ c. method_use c c.interface c.class) (method_at m.constant_pool i) ≡ Some u → IsReference m.constant_pool i u.reference
+  method_used e = by (method_at m.constant_pool i) refl e
+    where
+      by : (o : Option MethodConstant) → method_at m.constant_pool i ≡ o → option_and_then (λ c. method_use c c.interface c.class) o ≡ Some u → IsReference m.constant_pool i u.reference
+      by None q h = absurd (cc)
+      by (Some c) q h = called_by c q c.interface refl c.class refl h
+
+-- nothing is asked where no guarded member is used
+pub none_asked : (classes : List ClassFact) (m : Method Act) (a : Act) (f : FrameFact) → UsesNoneGuarded classes m a → member_conditions classes m a f ≡ []
+none_asked classes m a f free = by (used_by m a) refl
+  where
+    by : (o : Option Use) → used_by m a ≡ o → option_map_or (use_conditions classes m f) o [] ≡ []
+    by None q = refl
+    by (Some u) q = ap (λ b. if b then object_conditions (object_answer classes m.class (object_beneath u f)) else []) (free u q)
+
+-- the answer about the constant at the index is that about the member that the instruction uses
+module _ (around : Surroundings) (method : CodeMethod) (a : Act) (i : ℕ) (index : Option ℕ) (same : around.class ≡ method.class.now) (at : UsesAt (method_view method) a index)
+    (there : index ≡ Some i) where
+  asked : (u : Use) → used_by (method_view method) a ≡ Some u → IsReference around.class.constant_pool i u.reference
+  asked u e =
+      let found = subst (λ (o : Option ℕ). MatchOption o (Some u ≡ None) (λ k. IsReference method.class.now.constant_pool k u.reference)) there (at u e) in
+      subst (λ (class : ClassFile). IsReference class.constant_pool i u.reference) (sym same) found
+
+  module _ (b : Bool) (answer : (r : MemberReference) → IsReference around.class.constant_pool i r → b ≡ is_guarded around.classes (own_name around.class) r) where
+    answered : (u : Use) → used_by (method_view method) a ≡ Some u → is_guarded around.classes (method_view method).class u.reference ≡ b
+    answered u e = ap (λ (class : ClassFile). is_guarded around.classes (own_name class) u.reference) (sym same) ∙ sym (answer u.reference (asked u e))
+
+    pub none_guarded : b ≡ false → UsesNoneGuarded around.classes (method_view method) a
+    none_guarded free u e = answered u e ∙ free
+
+    pub guarded_by : b ≡ true → (u : Option uses.Use) → Uses (method_view method) a u → UsesGuarded around.classes (method_view method) a u
+    guarded_by guarded None none = λ u e. absurd (cc)
+    guarded_by guarded (Some u) is = (is, answered is.member is.used ∙ guarded)

@@ -77,10 +77,6 @@ module _ (ds : List (ℕ × NumberedFrame)) where
   pub named_last : (rs : List Representative) (one : Representative) → IsNamed (rs ++ one ∷ []) one.frame
   named_last rs one = record { place = length rs; one = one; here = pushed_last rs one; is = refl }
 
-  -- a frame that is its own lead, and one that has the locals of another
-  pub own_lead : (frame : ℕ) → frame < length ds → IsLead ds frame frame
-  own_lead frame lt = record { within = lt; equal = λ place less. refl }
-
 -- ---- which types frames take
 
 module _ (x : NumberedFrames) (place number : ℕ) where
@@ -143,9 +139,6 @@ module _ (x : NumberedFrames) (rs : List Representative) where
   -- the frames of all take what changed up to a place
   abbrev pub TakeChangesTo : ℕ → Type 0
   TakeChangesTo n = (k : ℕ) (r : Representative) → slice_get rs k ≡ Some r → TakesChanges x r.frame n
-
-  pub changes_none : TakeChangesTo 0
-  changes_none k r at_k place lt = absurd (omega (arith, lt))
 
   pub changes_more : (from : ℕ) → TakeChangesTo from → (place : ℕ) → ((k : ℕ) → from ≤ k → k < place → get_or x.running.locals k 0 ≡ get_or x.kept k 0)
       → AllTake x rs place (get_or x.running.locals place 0) → TakeChangesTo (place + 1)

@@ -1,4 +1,5 @@
 -- Words of the pass over a method's code.
+pub mod Alone
 pub mod Exceptions
 pub mod Finding
 pub mod Following

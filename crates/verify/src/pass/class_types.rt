@@ -65,6 +65,7 @@ fn put(number: Option<u32>, numbers: &mut Vec<u32>) -> Result<(), AllocError>
 
 impl ClassTypes {
     /// The numbers for a class. The only refusal is 1, where memory runs out.
+    #[inline(never)]
     pub fn new<'a, C: Classes>(
         alloc: Global,
         class: &ClassFile<'a>,

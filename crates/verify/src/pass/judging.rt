@@ -1,32 +1,29 @@
 //! One instruction.
-ghost use Rattle.std.specs.Prelude.{◌≡◌, ◌&&◌, ℕ, Bool, List, Option, is_none, length, OnOk, IsOk};
-ghost use Rattle.classfile.specs.Methods.{ExceptionEntry};
+ghost use Rattle.std.specs.Prelude.{◌≡◌, ℕ, Bool, Option, is_none, length, OnOk, IsOk};
 ghost use Rattle.insn.specs.Views.{act_view};
-ghost use Rattle.method_frames.specs.NumberedFrames.{NumberedFrames};
 ghost use Rattle.method_frames.specs.MapFrames.{frames_by};
 ghost use Rattle.numbered_rules.specs.Held.{held, IsRunning};
 ghost use Rattle.rules.specs.After.{after};
 ghost use Rattle.rules.specs.Bodies.{method_view};
-ghost use Rattle.rules.specs.Naming.{kept_bootstrapped, kept_own, names_bootstrapped, sets_own};
+ghost use Rattle.rules.specs.Naming.{names_bootstrapped, sets_own};
 ghost use Rattle.rules.specs.Outcomes.{Done, Judges};
 ghost use Rattle.rules.specs.Table.{typing_rule};
-ghost use Rattle.verify.specs.Verdict.{at_conditions, is_covered};
+ghost use Rattle.verify.specs.Verdict.{at_conditions};
 ghost use Rattle.verify.specs.private.JudgingSteps.{aside_conditions};
 ghost use Rattle.numbered_rules.specs.Running.{AreRuleNumbers};
 ghost use Rattle.verify.specs.private.pass.Following.{Follows, AreAhead, IsOnward};
+ghost use Rattle.verify.specs.private.pass.Alone.{asks_no_more};
 
 use crate::flow::check_end;
 use crate::pass::handlers::Handlers;
-use crate::pass::members::{check_member, constructs_own};
+use crate::pass::members::{check_member, covers_constructor, facts_of};
 use crate::pass::targets::check_targets;
 use crate::place_set::PlaceSet;
 use hierarchy::Classes;
 use insn::Act;
 use method_frames::MethodFrames;
 use numbered_rules::{Body, NamedFacts, run, run_plain};
-use rules::{
-    ClassConstants, Named, Reason, branches_by, first_reason, goes_on, is_plain, together,
-};
+use rules::{ClassConstants, Reason, branches_by, first_reason, goes_on, is_plain, together};
 
 /// The declared frames with which the running frame was compared.
 #[derive(Drop)]
@@ -37,16 +34,12 @@ pub struct Compared {
     pub targets: PlaceSet,
 }
 
-/// The facts about what an instruction names.
-fn facts_of(named: &Named<'_>) -> NamedFacts
-    ensures own { result.own ≡ kept_own named.now }
-    ensures bootstrapped { result.bootstrapped ≡ kept_bootstrapped named.now }
-{
-    NamedFacts {
-        own: named.is_own(),
-        bootstrapped: named.is_bootstrapped(),
-    }
-}
+/// The facts about what an instruction names that sets no field of its own class in a constructor, and names no Dynamic
+/// or InvokeDynamic.
+const NO_FACTS: NamedFacts = NamedFacts {
+    own: false,
+    bootstrapped: true,
+};
 
 /// Judges an instruction with this act, in the frame before it, which becomes the frame after: by its rule and its
 /// targets, with the reason that `aside` may hold. It does not judge the frame at the next instruction.
@@ -79,15 +72,6 @@ fn judge_named<'a, C: Classes>(
     }
 }
 
-/// Whether an entry of the exception table covers an instruction that calls a constructor on the own object, if it is
-/// one.
-fn covers_constructor(own: bool, at: u16, handlers: &Handlers) -> bool
-    ensures { (x : NumberedFrames) (es : List ExceptionEntry) → Follows x es at handlers.now
-        → AreAhead at handlers.now → result ≡ (own && is_covered es at) }
-{
-    own && handlers.covers(at)
-}
-
 /// Judges an instruction in the frame before it, which becomes the frame after: by its rule, the protected member that
 /// it uses, its targets, and the handlers of the entries that cover it.
 fn judge_wholly<'a, C: Classes>(
@@ -115,27 +99,34 @@ fn judge_wholly<'a, C: Classes>(
     ensures handlers { let m = method_view body.now.method.now in
         OnOk result (Follows frames.new m.exceptions at compared.new.handlers) }
 {
-    let named = constants.named(body.method, act)?;
-    let class = body.numbers.class;
-    let used = check_member(
-        body.method,
-        act,
-        &named,
-        class,
-        &mut constants.members,
-        frames,
-    );
-    let own = constructs_own(body.method, act, &named, frames);
-    let covered = covers_constructor(own, at, &compared.handlers);
+    let covered = covers_constructor(body.method, at, act, constants, &compared.handlers, frames)?;
+    let facts = facts_of(body.method, act, constants)?;
+    let used = check_member(body.method, act, body.numbers.class, constants, frames);
     let caught = compared.handlers.catch(at, frames);
     let before = together(used, caught);
     let aside = together(before, check_end(goes_on(act), last, covered));
-    let facts = facts_of(&named);
     judge_named(body, at, act, facts, aside, &mut compared.targets, frames)
 }
 
-/// Like [`judge_wholly`], but by the rule alone where nothing else is asked: no handler is to be compared, and the
-/// instruction is plain and not the last one.
+/// Whether nothing is asked of an instruction but its rule, its targets, the handlers around it, and that it goes on to
+/// another one: it uses no member on an object, calls no constructor, and names no bootstrap method.
+fn asks_no_more(act: &Act<'_>) -> bool
+    ensures { result ≡ asks_no_more (act_view act.now) }
+{
+    !matches!(
+        act,
+        Act::GetField { .. }
+            | Act::PutField { .. }
+            | Act::InvokeVirtual { .. }
+            | Act::InvokeSpecial { .. }
+            | Act::InvokeDynamic { .. }
+            | Act::LoadConstant { .. }
+            | Act::LoadWideConstant { .. }
+    )
+}
+
+/// Like [`judge_wholly`], but by the rule alone, or the rule and the targets, where nothing else is asked: no handler
+/// is to be compared, and the instruction is not the last one.
 pub fn judge<'a, C: Classes>(
     body: &Body<'_, 'a>,
     at: u16,
@@ -161,8 +152,22 @@ pub fn judge<'a, C: Classes>(
         OnOk result (Follows frames.new m.exceptions at compared.new.handlers) }
 {
     compared.handlers.come_to(at);
-    if !last && is_plain(act) && compared.handlers.are_idle(at, frames) {
+    if last || !compared.handlers.are_idle(at, frames) {
+        return judge_wholly(body, at, act, last, constants, compared, frames);
+    }
+    if is_plain(act) {
         return run_plain(body.method, act, &body.numbers, frames);
+    }
+    if asks_no_more(act) {
+        return judge_named(
+            body,
+            at,
+            act,
+            NO_FACTS,
+            Ok(()),
+            &mut compared.targets,
+            frames,
+        );
     }
     judge_wholly(body, at, act, last, constants, compared, frames)
 }

@@ -1,10 +1,13 @@
 //! The protected member that an instruction uses (JVMS 4.10.1.8), and whether it calls a constructor on the own object.
-ghost use Rattle.std.specs.Prelude.{◌≡◌, ℕ, List, [], drop, option_map};
+ghost use Rattle.std.specs.Prelude.{◌≡◌, ◌&&◌, ℕ, List, [], drop, option_map, IfOk};
+ghost use Rattle.classfile.specs.Methods.{ExceptionEntry, Method};
 ghost use Rattle.hierarchy.specs.Answer.{outcome_of};
+ghost use Rattle.insn.specs.Meanings as meanings;
 ghost use Rattle.insn.specs.Stacks.{beneath};
 ghost use Rattle.insn.specs.Views.{act_view};
 ghost use Rattle.frames.specs.DeclaredFrames.{is_uninit_this};
 ghost use Rattle.frames.specs.VerificationType.{VerificationType, class as class_of, type_of};
+ghost use Rattle.method_frames.specs.NumberedFrames.{NumberedFrames};
 ghost use Rattle.pool.specs.ConstantViews.{method_constant_view};
 ghost use Rattle.type_numbers.specs.Numbers.{IsNumber, IsGiven};
 ghost use Rattle.type_numbers.specs.Decoding.{type_by};
@@ -12,22 +15,26 @@ ghost use Rattle.rules.specs.TypingRules.{arguments_on};
 ghost use Rattle.rules.specs.After.{top_of};
 ghost use Rattle.rules.specs.Bodies.{method_view};
 ghost use Rattle.rules.specs.Constants.{invoke_special};
-ghost use Rattle.rules.specs.Naming.{IsNamed};
+ghost use Rattle.rules.specs.Naming.{names_bootstrapped, sets_own};
 ghost use Rattle.rules.specs.Outcomes.{Judges};
 ghost use Rattle.rules.specs.Protected.{member_conditions, object_answer};
 ghost use Rattle.rules.specs.Rules.{constructs_own};
 ghost use Rattle.rules.specs.Table.{typing_rule};
 ghost use Rattle.numbered_rules.specs.Held.{held};
-ghost use Rattle.verify.specs.private.pass.Objects.{is_array_type};
+ghost use Rattle.verify.specs.Verdict.{is_covered};
+ghost use Rattle.verify.specs.private.pass.Following.{Follows, AreAhead};
+ghost use Rattle.verify.specs.private.pass.Objects.{is_array_type, UsesAt, UsesGuarded};
 
+use crate::pass::handlers::Handlers;
 use classfile::CodeMethod;
 use frames::{VType, is_own};
 use hierarchy::{Answer, Classes};
 use insn::Act;
 use method_frames::MethodFrames;
-use numbered_rules::TOP;
+use numbered_rules::{NamedFacts, TOP};
 use pool::MethodConstant;
-use rules::{Members, Named, Reason, check_object, is_constructor, special_index, used_by};
+use rules::{ClassConstants, Reason, Use, check_object, is_constructor, special_index, used_by};
+use std::alloc::AllocError;
 use type_numbers::TypeNumbers;
 
 /// The type of the item of the running frame's stack that so many stand above; top where there is none.
@@ -65,32 +72,62 @@ fn object_answer<'n, C: Classes>(
     types.assignable(object, class)
 }
 
+/// The index of the member that an instruction uses on an object, if it may use one.
+fn used_index(act: &Act<'_>) -> Option<u16>
+    ensures { (m : Method meanings.Act) → UsesAt m (act_view act.now) result }
+{
+    match *act {
+        Act::GetField { index } => Some(index),
+        Act::PutField { index } => Some(index),
+        Act::InvokeVirtual { index } => Some(index),
+        _ => None,
+    }
+}
+
+/// The member that an instruction uses on an object, where that is guarded. The only refusal: memory ran out.
+fn guarded_use<'a, C: Classes>(
+    method: &CodeMethod<'_, 'a>,
+    act: &Act<'a>,
+    constants: &mut ClassConstants<'_, '_, 'a, C>,
+) -> Result<Option<Use>, AllocError>
+    requires { constants.old.members.class ≡ method.now.class.now }
+    ensures same { constants.new.members ≡ constants.old.members }
+    ensures used { IfOk result (UsesGuarded constants.old.members.classes (method_view method.now) (act_view act.now)) }
+{
+    let Some(index) = used_index(act) else {
+        return Ok(None);
+    };
+    if !constants.members.is_guarded(index)? {
+        return Ok(None);
+    }
+    let named = constants.named(method, act)?;
+    Ok(used_by(method, act, &named))
+}
+
 /// Judges an instruction, in the frame before it, by the member that it uses: where that is guarded, 82 unless the
 /// object is one of the current class, of which this is the number, and 77 where a class is missing; or 1 where memory
 /// runs out.
 pub fn check_member<'a, C: Classes>(
     method: &CodeMethod<'_, 'a>,
     act: &Act<'a>,
-    named: &Named<'a>,
     class: u32,
-    members: &mut Members<'_, '_, 'a, C>,
+    constants: &mut ClassConstants<'_, '_, 'a, C>,
     frames: &MethodFrames<'_, '_, 'a, C>,
 ) -> Result<(), Reason<'a>>
-    requires named { IsNamed (method_view method.now) (act_view act.now) named.now }
     requires class { IsNumber frames.now.types class (class_of (method_view method.now).class) }
-    requires members { members.old ≡ record { class = method.now.class.now; classes = frames.now.types.classes } }
-    ensures same { members.new ≡ members.old }
+    requires constants { constants.old.members
+        ≡ record { class = method.now.class.now; classes = frames.now.types.classes } }
+    ensures same { constants.new.members ≡ constants.old.members }
     ensures judged { Judges (member_conditions frames.now.types.classes (method_view method.now) (act_view act.now)
         (held frames.now)) result }
 {
-    let Some(member) = used_by(method, act, named) else {
-        return Ok(());
-    };
-    if !members.is_guarded(member.index)? {
-        return Ok(());
+    match guarded_use(method, act, constants)? {
+        None => Ok(()),
+        Some(member) => {
+            let object = item_beneath(member.above, frames);
+            check_object(object_answer(object, class, frames.types()))
+        }
     }
-    let object = item_beneath(member.above, frames);
-    check_object(object_answer(object, class, frames.types()))
 }
 
 /// Whether the own object, not initialized, stands beneath the arguments.
@@ -120,19 +157,59 @@ fn calls_on_own<'a, C: Classes>(
     }
 }
 
-/// Whether an instruction with this act calls a constructor on the own object, which is not initialized (JVMS 4.10.1.9,
-/// invokespecial).
-pub fn constructs_own<'a, C: Classes>(
+/// Whether an entry of the exception table covers an instruction that calls a constructor on the own object, which is
+/// not initialized (JVMS 4.10.1.9, invokespecial). The only refusal: memory ran out.
+pub fn covers_constructor<'a, C: Classes>(
+    method: &CodeMethod<'_, 'a>,
+    at: u16,
+    act: &Act<'a>,
+    constants: &mut ClassConstants<'_, '_, 'a, C>,
+    handlers: &Handlers,
+    frames: &MethodFrames<'_, '_, 'a, C>,
+) -> Result<bool, AllocError>
+    requires { constants.old.members.class ≡ method.now.class.now }
+    ensures same { constants.new.members ≡ constants.old.members }
+    ensures covered { IfOk result (λ b. (x : NumberedFrames) (es : List ExceptionEntry) → Follows x es at handlers.now
+        → AreAhead at handlers.now
+        → b ≡ (constructs_own (typing_rule (method_view method.now) (act_view act.now)) (held frames.now)
+        && is_covered es at)) }
+{
+    if !handlers.covers(at) {
+        return Ok(false);
+    }
+    match special_index(act) {
+        None => Ok(false),
+        Some(_) => {
+            let named = constants.named(method, act)?;
+            Ok(calls_on_own(named.method(), frames))
+        }
+    }
+}
+
+/// The facts about what an instruction names. The only refusal: memory ran out.
+pub fn facts_of<'a, C: Classes>(
     method: &CodeMethod<'_, 'a>,
     act: &Act<'a>,
-    named: &Named<'a>,
-    frames: &MethodFrames<'_, '_, 'a, C>,
-) -> bool
-    requires { IsNamed (method_view method.now) (act_view act.now) named.now }
-    ensures { result ≡ constructs_own (typing_rule (method_view method.now) (act_view act.now)) (held frames.now) }
+    constants: &mut ClassConstants<'_, '_, 'a, C>,
+) -> Result<NamedFacts, AllocError>
+    requires { constants.old.members.class ≡ method.now.class.now }
+    ensures same { constants.new.members ≡ constants.old.members }
+    ensures own { IfOk result (λ x. x.own ≡ sets_own (method_view method.now) (act_view act.now)) }
+    ensures bootstrapped { IfOk result (λ x. x.bootstrapped
+        ≡ names_bootstrapped (method_view method.now) (act_view act.now)) }
 {
-    match special_index(act) {
-        None => false,
-        Some(_) => calls_on_own(named.method(), frames),
+    let mut facts = NamedFacts {
+        own: false,
+        bootstrapped: true,
+    };
+    match *act {
+        Act::PutField { index } => facts.own = constants.sets_own(method, index)?,
+        Act::LoadConstant { index }
+        | Act::LoadWideConstant { index }
+        | Act::InvokeDynamic { index } => {
+            facts.bootstrapped = constants.members.is_bootstrapped(method, index)?;
+        }
+        _ => {}
     }
+    Ok(facts)
 }

@@ -100,6 +100,7 @@ fn fault_number(fault: ReadFault) -> Result<u8, VerifyFault>
 /// Declares the frames of a method's stack map (JVMS 4.7.4), none where it has no map, and makes the running frame the
 /// one with which the method begins; or tells the number of the fault for which the map is refused. The only other
 /// refusal is 1, where memory runs out.
+#[inline(never)]
 fn declare_map<'a, C: Classes>(
     alloc: Global,
     body: &Body<'_, 'a>,

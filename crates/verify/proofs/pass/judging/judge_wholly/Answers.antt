@@ -42,10 +42,10 @@ judge_named-requires-clause-numbers g c =
     numbers_to start c.catch-caught.new.frames (onward_kept start c.catch-caught.new.frames c.catch-caught.ensures.rest) (method_view c.args.body.now.method.now) c.args.body.now.numbers c.requires.numbers
 
 pub judge_named-requires-clause-own : goal.judge_named-requires-clause-own
-judge_named-requires-clause-own g c = c.facts_of-facts.ensures.own ∙ c.in_ok-named.ensures.found.own
+judge_named-requires-clause-own g c = c.in_ok-facts.ensures.own
 
 pub judge_named-requires-clause-bootstrapped : goal.judge_named-requires-clause-bootstrapped
-judge_named-requires-clause-bootstrapped g c = c.facts_of-facts.ensures.bootstrapped ∙ c.in_ok-named.ensures.found.bootstrapped
+judge_named-requires-clause-bootstrapped g c = c.in_ok-facts.ensures.bootstrapped
 
 pub catch-caught-requires : goal.catch-caught-requires
 catch-caught-requires g c = record { follows = ((method_view c.args.body.now.method.now).exceptions, c.requires.handlers); ahead = c.requires.ahead }
@@ -59,11 +59,10 @@ returns-clause-judged g c = λ next e.
     let a = act_view c.args.act.now in
     let p = typing_rule m a in
     let f = held start in
-    let looked = c.covers_constructor-covered.ensures start m.exceptions c.requires.handlers c.requires.ahead in
+    let covered = c.in_ok-covered.ensures.covered start m.exceptions c.requires.handlers c.requires.ahead in
     let caught = c.catch-caught.ensures.judged m.exceptions c.requires.handlers in
     let before = c.together-before.ensures.judged (member_conditions classes m a f) (handler_conditions classes frames c.args.at f m.exceptions) c.check_member-used.ensures.judged caught in
-    let end = end_as m c.args.at a c.args.last f c.goes_on.result c.covers_constructor-covered.result c.check_end.result c.goes_on.ensures
-    (looked ∙ ap (λ b. b && is_covered m.exceptions c.args.at) c.constructs_own-own.ensures) c.check_end.ensures in
+    let end = end_as m c.args.at a c.args.last f c.goes_on.result c.in_ok-covered.covered c.check_end.result c.goes_on.ensures covered c.check_end.ensures in
     let aside : Judges (aside_conditions classes m frames c.args.at a c.args.last f) c.together-aside.result =
     c.together-aside.ensures.judged (before_conditions classes m frames c.args.at a f)
     ((reason falls_off, goes_on a && c.args.last) ∷ (reason constructor_covered, constructs_own (typing_rule m a) f && is_covered m.exceptions c.args.at) ∷ []) before end in
