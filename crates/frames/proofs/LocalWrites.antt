@@ -6,20 +6,16 @@ use Rattle.std.proofs.lemmas.List.{reverse-append, get_or_append_left, get_or-ap
 use Rattle.frames.specs.VerificationType.{VerificationType, type_of, top}
 use Rattle.frames.specs.Slots.{is_wide, units_of, in_locals}
 use Rattle.frames.specs.FrameAssignable.{width_of}
-use Rattle.frames.specs.TypeChains.{link_at, types_at, AreLinked, IsOn, local_in, one_set, AreTopFrom, AreBelow, AreOfChain, AreWritten}
+use Rattle.frames.specs.TypeChains.{link_at, types_at, AreLinked, IsOn, local_in, one_set, AreTopFrom, AreOfChain, AreWritten}
 use Rattle.frames.specs.DeclaredViews.{locals_at, fact_of, IsInside}
-use Rattle.frames.specs.DeclaredTables.{declared_view, AreOfOne, AreKept}
 use Rattle.frames.specs.Locals.{local, locals_in}
 use Rattle.frames.specs.declared.chain.Link.{Link}
 use Rattle.frames.specs.declared.frame_tops.FrameTops.{FrameTops}
 use Rattle.frames.specs.declared.locals.Locals.{Locals}
-use Rattle.frames.specs.declared.declared_frames.Declared.{Declared}
 use Rattle.frames.proofs.TypeChains.{types_step}
 use Rattle.frames.proofs.Sharing.{types_on}
-use Rattle.frames.proofs.Walks.{in_append, in_top, units_in, width_is}
-use Rattle.frames.proofs.Finding.{locals_filled}
-use Rattle.frames.proofs.Comparison.{get_padded}
-use Rattle.frames.proofs.LocalTypes.{held_length, held_is, held_are}
+use Rattle.frames.proofs.Walks.{in_append, in_top, units_in, width_is, get_padded}
+use Rattle.frames.proofs.LocalTypes.{held_are}
 
 -- ---- by units
 
@@ -155,18 +151,15 @@ module _ (links : List Link) (k : AreLinked links) (high : ℕ) (old : ℕ → V
       by false false true p q r = lower (is_wide t) refl (grind (arith, nat_tests, r))
       by false false false p q r = other (is_wide t) refl (λ e. grind (arith, nat_tests, p, e)) (λ e. grind (arith, nat_tests, q, e)) (grind (arith, nat_tests, r))
 
-  -- the floor was met, below which the locals are of the chain
-  pub written_all : (here floor limit : ℕ) (now : ℕ → VerificationType) → IsOn links high floor → types_at links here ≡ types_at links floor → AreBelow links floor old
-      → AreWritten links high here limit old now → AreOfChain links high limit now
-  written_all here floor limit now on same below was i lt = by (nat_lt i (units_of (types_at links here))) refl (was i lt)
+  -- the bottom was met
+  pub written_all : (here limit : ℕ) (now : ℕ → VerificationType) → types_at links here ≡ [] → AreWritten links high here limit old now → AreOfChain links high limit now
+  written_all here limit now none was i lt = by (nat_lt i (units_of (types_at links here))) refl (was i lt)
     where
       by : (b : Bool) → nat_lt i (units_of (types_at links here)) ≡ b → now i ≡ (if b then old i else local_in (types_at links high) i) → now i ≡ local_in (types_at links high) i
-      by true e f =
-          let inside : i < units_of (types_at links floor) = subst (λ ts. i < units_of ts) same (grind (arith, nat_tests, e)) in
-          f ∙ below i inside ∙ sym (high_has floor on i inside)
+      by true e f = let less : i < units_of (types_at links here) = grind (arith, nat_tests, e) in absurd (omega (arith, less, ap units_of none))
       by false e f = f
 
--- ---- locals that were those of another frame
+-- ---- the locals of a frame
 
 pub fact_local : (links : List Link) (n : ℕ) (f : FrameTops) (i : ℕ) → get_or (fact_of links n f).locals i top ≡ local_in (types_at links f.locals) i
 unfolding fact_of locals_at
@@ -176,30 +169,3 @@ pub of_chain : (x : Locals) (links : List Link) (n : ℕ) (f : FrameTops) → Is
     → locals_in x (length (fact_of links n f).locals) ≡ (fact_of links n f).locals
 unfolding local locals_in
 of_chain x links n f inside are = held_are x.types.items (length (fact_of links n f).locals) (fact_of links n f).locals refl (λ i lt. are i lt ∙ sym (fact_local links n f i))
-
-module _ (d : Declared) (x : Locals) (m : ℕ) (k : Declared) (kept : AreKept d (locals_in x m) k) where
-  abbrev links : List Link
-  links = d.chains.now.links.items
-
-  pub kept_local : (i : ℕ) → i < m → local x i ≡ local_in (types_at links k.tops.locals) i
-  unfolding local locals_in declared_view AreOfOne
-  kept_local i lt =
-      sym (held_is x.types.items m i lt) ∙ ap (λ (ts : List VerificationType). get_or ts i top) kept.same
-      ∙ fact_local k.chains.now.links.items k.max_locals k.tops i ∙ ap (λ (l : List Link). local_in (types_at l k.tops.locals) i) kept.of_one.0
-
-  pub kept_units : units_of (types_at links k.tops.locals) ≤ m
-  unfolding AreOfOne declared_view locals_in
-  kept_units =
-      let inside = k.inside.units in
-      let size : k.max_locals ≡ m = sym (locals_filled k.chains.now.links.items k.max_locals k.tops k.inside) ∙ sym (ap (λ (ts : List VerificationType). length ts) kept.same) ∙ held_length x.types.items m in
-      omega (arith, size, inside, ap (λ (l : List Link). units_of (types_at l k.tops.locals)) kept.of_one.0)
-
-  -- the locals of a place that the two share
-  pub shared_local : (shared i : ℕ) → IsOn links k.tops.locals shared → i < units_of (types_at links shared) → local x i ≡ local_in (types_at links shared) i
-  shared_local shared i on lt =
-      let low = units_lower links d.chains.now.linked k.tops.locals (local x) shared on in
-      kept_local i (omega (arith, lt, low, kept_units)) ∙ high_has links d.chains.now.linked k.tops.locals (local x) shared on i lt
-
-  -- those beyond its own are top
-  pub past_local : (i : ℕ) → units_of (types_at links k.tops.locals) ≤ i → i < m → local x i ≡ top
-  past_local i le lt = kept_local i lt ∙ in_past (types_at links k.tops.locals) i le

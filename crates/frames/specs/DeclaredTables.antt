@@ -28,15 +28,6 @@ declared_view d = fact_of d.chains.now.links.items d.max_locals d.tops
 unfoldable pub IsOf : DeclaredFrames → Declared → Type 0
 IsOf t d = (d.chains.now.links.items ≡ t.chains.links.items) × (d.max_locals ≡ t.max_locals)
 
--- two frames of one table
-unfoldable pub AreOfOne : Declared → Declared → Type 0
-AreOfOne d e = (d.chains.now.links.items ≡ e.chains.now.links.items) × (d.max_locals ≡ e.max_locals)
-
--- locals are those of a frame that stands in one table with another
-pub record AreKept (other : Declared) (locals : List VerificationType) (kept : Declared) : Type 0 where
-  pub of_one : AreOfOne kept other
-  pub same : locals ≡ (declared_view kept).locals
-
 -- whole frames, each with its offset
 abbrev pub whole_frames : List (ℕ × Frame) → List (ℕ × FrameFact)
 whole_frames frames = map (λ x. (x.0, frame_of x.1)) frames

@@ -27,8 +27,6 @@ pub mod RefusedEntries
 pub mod Marks
 pub mod MarkedCode
 pub mod DeclaredForms
-pub mod Fitting
-pub mod StackFitting
 pub mod Packing
 pub mod PackedFrames
 pub mod Undecided

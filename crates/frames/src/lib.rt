@@ -12,7 +12,6 @@
 //! - `declaring`: these frames made from the entries, and the first entry that is refused.
 //! - `difference`: what differs first of two frames, and where a class is missing first.
 //! - `entry_faults`: the entry that bytes do not spell.
-//! - `fitting`: which declared frames running locals are known to fit.
 //! - `frame`: frames.
 //! - `frame_fault`: why an entry is refused.
 //! - `holders`: the places that came to hold objects that are not initialized.
@@ -26,7 +25,6 @@
 //! - `packed_frame`: frames with their slots, compared by lanes.
 //! - `packing`: types as slots of four bytes.
 //! - `refusing`: an entry judged.
-//! - `stack_fitting`: which declared frames a running stack is known to fit.
 //! - `stack_map`: stack maps, and `read_map`.
 //! - `starts`: where instructions begin.
 //! - `slot_comparison`: where equal slots do not decide.
@@ -43,7 +41,6 @@ mod declared_frames;
 mod declaring;
 mod difference;
 mod entry_faults;
-mod fitting;
 mod frame;
 mod frame_assignability;
 mod frame_fault;
@@ -61,7 +58,6 @@ mod packed_frame;
 mod packing;
 mod refusing;
 mod slot_comparison;
-mod stack_fitting;
 mod stack_map;
 mod starts;
 mod vtype;
@@ -74,7 +70,6 @@ pub use declared_frames::{Declared, DeclaredFrames};
 pub use declaring::{RefusedEntry, declare, refused_entry};
 pub use difference::{Difference, Mismatch, Sought, first_difference, first_missing, is_sought};
 pub use entry_faults::faulty_entry;
-pub use fitting::Fitting;
 pub use frame::Frame;
 pub use frame_assignability::{both, frame_assignable, width};
 pub use frame_fault::FrameFault;
@@ -87,7 +82,6 @@ pub use packed_frame::{Packed, packed_assignable};
 pub use packing::pack;
 pub use refusing::{Limits, Sizes, judge_entry};
 pub use slot_comparison::{ABSENT, first_undecided};
-pub use stack_fitting::StackFitting;
 pub use stack_map::{MapEntry, StackMap, TypeInfo, read_map};
 pub use starts::Starts;
 pub use vtype::VType;

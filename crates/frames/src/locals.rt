@@ -56,18 +56,6 @@ impl<'a> Locals<'a> {
         }
     }
 
-    /// The locals with numbers below a limit, from 0 up; all beyond the last of them are top.
-    pub fn below(&self, limit: usize) -> &[VType<'a>]
-        ensures same { held_locals result.now limit ≡ locals_in self.now limit }
-        ensures few { length result.now ≤ limit }
-    {
-        if limit < self.types.len() {
-            &self.types[..limit]
-        } else {
-            &self.types
-        }
-    }
-
     // Takes room for the local with this number.
     fn reach(&mut self, place: usize) -> Result<(), AllocError>
         requires { place + 1 < 2 ^ 64 }

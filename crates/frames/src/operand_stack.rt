@@ -3,14 +3,12 @@ ghost use Rattle.std.specs.Prelude.{◌≡◌, ◌<◌, ◌≤◌, ◌-◌, ℕ,
 ghost use Rattle.insn.specs.Stacks.{rearranged};
 ghost use Rattle.insn.specs.Views.{stack_form_view};
 ghost use Rattle.frames.specs.VerificationType.{VerificationType, type_of};
-ghost use Rattle.frames.specs.DeclaredTables.{declared_view};
 ghost use Rattle.frames.specs.Holders.{number_of};
 ghost use Rattle.frames.specs.LocalTypes.{type_at};
 ghost use Rattle.frames.specs.ObjectHolders.{Holds};
 ghost use Rattle.frames.specs.Objects.{replaced};
 ghost use Rattle.frames.specs.StackItems.{top_first, IsCounted, AreListedFrom, ItemsAreListed, has_object};
 
-use crate::declared_frames::Declared;
 use crate::holders::Holders;
 use crate::moves::{extra, rearrange, wides};
 use crate::objects::is_object;
@@ -45,19 +43,6 @@ fn list(types: &[VType<'_>], from: usize, holders: &mut Holders) -> Result<(), A
         holders.put(&types[place], place)?;
     }
     Ok(())
-}
-
-/// Writes the stack of a declared frame, and lists its items.
-fn write<'a>(
-    declared: &Declared<'_, 'a>,
-    types: &mut Vec<VType<'a>>,
-    holders: &mut Holders,
-) -> Result<(), AllocError>
-    ensures { OnOk result ((top_first types.new.items ≡ (declared_view declared.now).stack)
-        × ItemsAreListed types.new.items holders.new) }
-{
-    declared.write_stack(types)?;
-    list(types, 0, holders)
 }
 
 /// Takes the items of a form off, pushes what it leaves, and lists this.
@@ -116,7 +101,6 @@ impl<'a> OperandStack<'a> {
     ghost use Rattle.frames.specs.FrameAssignable.{width_of};
     ghost use Rattle.frames.specs.Slots.{units_of};
     ghost use Rattle.frames.specs.OperandStacks.{stack_in, item};
-    ghost use Rattle.frames.specs.Objects.{is_initialized};
 
     /// With nothing on it.
     pub fn new(alloc: Global) -> OperandStack<'a>
@@ -192,19 +176,6 @@ impl<'a> OperandStack<'a> {
         self.holders.clear();
     }
 
-    /// Becomes that of a declared frame, in the memory that it has. Nothing is said of it where memory ran out.
-    pub fn take_on(&mut self, declared: &Declared<'_, 'a>) -> Result<(), AllocError>
-        ensures { OnOk result (stack_in self.new ≡ (declared_view declared.now).stack) }
-    {
-        if let Err(error) = write(declared, &mut self.types, &mut self.holders) {
-            self.types.clear();
-            self.wides = 0;
-            return Err(error);
-        }
-        self.wides = wides(&self.types);
-        Ok(())
-    }
-
     /// Takes the items of a form off, and pushes what it leaves. Nothing is said of the stack where memory ran out.
     pub fn rearrange(&mut self, form: StackForm) -> Result<(), AllocError>
         requires { length form.takes.now ≤ length (stack_in self.old) }
@@ -233,26 +204,6 @@ impl<'a> OperandStack<'a> {
             at = holder.next;
         }
         false
-    }
-
-    /// How many items from the bottom up, at most so many, are of other types than this object, which is not
-    /// initialized: all in front of the first one that is of it.
-    pub fn items_before(&self, object: &VType<'_>, limit: usize) -> usize
-        ensures few { result ≤ limit }
-        ensures other { (i : ℕ) → i < result
-            → is_initialized (type_of object.now) (item (stack_in self.now) i) ≡ false }
-        ensures first { result < limit → is_initialized (type_of object.now) (item (stack_in self.now) result) ≡ true }
-    {
-        let mut first = limit;
-        let mut at = self.holders.first(object);
-        while let Some(holder) = self.holders.get(at) {
-            let place = holder.place;
-            if place < first && is_object(object, &at_or_top(&self.types, place)) {
-                first = place;
-            }
-            at = holder.next;
-        }
-        first
     }
 
     /// Puts a type, which is of no such object, in place of an object which is not initialized.

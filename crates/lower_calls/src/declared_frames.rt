@@ -3,8 +3,8 @@ ghost use Rattle.std.specs.Prelude.{◌≡◌};
 use classfile::{ClassFile, decode};
 use format_calls::making::K;
 use frames::{
-    CodeStarts, Declared, DeclaredFrames, Frame, FrameFault, Limits, Locals, MapEntry,
-    RefusedEntry, StackMap, TypeInfo, VType, declare, declared, laws, refused_entry,
+    CodeStarts, DeclaredFrames, Frame, FrameFault, Limits, MapEntry, RefusedEntry, StackMap,
+    TypeInfo, VType, declare, declared, laws, refused_entry,
 };
 use insn::decode_code;
 use pool::ConstantTypes;
@@ -46,41 +46,37 @@ pub fn limits<'m, 'a>(
     }
 }
 
-/// Whether a frame has these locals, by units, and this stack.
-fn has(
-    alloc: Global,
-    frame: &Declared<'_, '_>,
-    locals: &[VType<'_>],
-    stack: &[VType<'_>],
-) -> Result<bool, AllocError> {
-    let mut found = Locals::new(alloc);
-    frame.write_locals(None, &mut found)?;
-    let mut items = Vec::new(alloc);
-    frame.write_stack(&mut items)?;
-    let alike = frame.local(1) == found.get(1) && frame.local(2) == VType::Top;
-    Ok(alike && found.below(5) == locals && items.as_slice() == stack && !frame.flag())
+/// Whether a frame has these locals and perhaps more, and this stack, at this offset.
+fn is_whole(found: &(u16, Frame<'_>), at: u16, locals: &[VType<'_>], stack: &[VType<'_>]) -> bool {
+    found.0 == at
+        && found.1.locals.len() == 5
+        && found.1.locals.starts_with(locals)
+        && found.1.stack.as_slice() == stack
 }
 
-/// Whether the frame at an offset is found, and has these locals, by units, and this stack.
+/// Whether the frame at a place has these locals and perhaps more, and this stack, at the offset of this number.
 fn has_at(
     alloc: Global,
     frames: &DeclaredFrames<'_>,
-    at: u32,
+    place: u16,
     locals: &[VType<'_>],
     stack: &[VType<'_>],
 ) -> Result<bool, AllocError> {
-    match frames.find(at) {
-        Some(frame) => has(alloc, &frame, locals, stack),
+    match frames.get(usize::from(place)) {
+        Some((at, declared)) => {
+            let frame = declared.to_frame(alloc)?;
+            Ok(is_whole(&(at as u16, frame), place, locals, stack))
+        }
         None => Ok(false),
     }
 }
 
-/// Whether the frames of the entries are found by their offsets, and no other.
+/// Whether the frames of the entries stand by their offsets, and no other.
 fn have_all(alloc: Global, frames: &DeclaredFrames<'_>) -> Result<bool, AllocError> {
     let same = has_at(alloc, frames, 0, &LOCALS, &[])?;
     let item = has_at(alloc, frames, 1, &LOCALS, &[VType::Double])?;
     let chopped = has_at(alloc, frames, 2, &LOCALS[..3], &[])?;
-    Ok(same && item && chopped && frames.find(3).is_none())
+    Ok(same && item && chopped && frames.get(3).is_none())
 }
 
 /// Whether the frames of the entries are declared.
@@ -110,14 +106,6 @@ fn refused(
     let mut constants = ConstantTypes::new(alloc, &class.constant_pool);
     let limits = limits(class, &starts, max_stack);
     refused_entry(alloc, map.entries(), &limits, &mut constants, &[])
-}
-
-/// Whether a frame has these locals and perhaps more, and this stack, at this offset.
-fn is_whole(found: &(u16, Frame<'_>), at: u16, locals: &[VType<'_>], stack: &[VType<'_>]) -> bool {
-    found.0 == at
-        && found.1.locals.len() == 5
-        && found.1.locals.starts_with(locals)
-        && found.1.stack.as_slice() == stack
 }
 
 /// Whether these frames are told with all their locals; or the fault, where the stack has room for one unit.

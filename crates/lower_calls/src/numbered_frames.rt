@@ -332,6 +332,29 @@ fn changes_are_told<C: Classes>(alloc: Global, classes: &C) -> Result<bool, Allo
     Ok(alike && before == Some(18) && kept.is_none() && changed == [Some(18), None])
 }
 
+/// Whether a frame has these types in its local variables and on its stack, from the bottom up, and this flag.
+fn has_types(frame: &Frame<'_>, locals: &[VType<'_>], stack: &[VType<'_>], flag: bool) -> bool {
+    frame.locals.as_slice() == locals && frame.stack.as_slice() == stack && frame.flag == flag
+}
+
+/// Whether frames are told by their types: a declared one, and the running one that changed since.
+fn types_are_told<C: Classes>(alloc: Global, classes: &C) -> Result<bool, AllocError> {
+    let mut types = TypeNumbers::new(alloc, classes);
+    let n = given_numbers(&mut types, (VType::Long, B))?;
+    let mut frames = declared_at_7(alloc, &types, n)?;
+    put(&mut frames, 0, n.theirs)?;
+    frames.push(n.theirs)?;
+    frames.set_flag(false);
+    let running = frames.frame(alloc)?;
+    let declared = frames.declared_frame(alloc, 0)?;
+    let mut locals = [VType::Top; 20];
+    locals[18] = VType::Long;
+    let before = has_types(&declared, &locals, &[VType::Long, VType::Int], true);
+    locals[0] = B;
+    let after = has_types(&running, &locals, &[VType::Long, VType::Int, B], false);
+    Ok(before && after)
+}
+
 /// Whether frames begin anew for another method.
 fn begins_anew<C: Classes>(alloc: Global, classes: &C) -> Result<bool, AllocError> {
     let mut types = TypeNumbers::new(alloc, classes);
@@ -348,8 +371,8 @@ fn all_hold<C: Classes>(alloc: Global, classes: &C) -> Result<bool, AllocError> 
     let frames = is_taken(alloc, classes)? && flags_count(alloc, classes)?;
     let items = are_popped(alloc, classes)? && is_moved(alloc, classes)?;
     let others = is_caught(alloc, classes)? && begins_anew(alloc, classes)?;
-    let changes = changes_are_told(alloc, classes)?;
-    Ok(frames && items && others && changes && is_forgotten(alloc, classes)?)
+    let told = changes_are_told(alloc, classes)? && types_are_told(alloc, classes)?;
+    Ok(frames && items && others && told && is_forgotten(alloc, classes)?)
 }
 
 /// Whether all that is said of frames by numbers holds; or memory ran out, where it may.

@@ -32,18 +32,6 @@ fn is_replaced(alloc: Global) -> Result<bool, AllocError> {
     Ok(has_both && is_counted && is_gone && types.as_slice() == left.as_slice())
 }
 
-/// Whether the items in front of the first object of a kind are counted, at most so many.
-fn is_counted_before(alloc: Global) -> Result<bool, AllocError> {
-    let stack = objects(alloc)?;
-    let before = [
-        stack.items_before(&MADE, 3),
-        stack.items_before(&OTHER, 3),
-        stack.items_before(&OTHER, 1),
-        stack.items_before(&VType::UninitThis, 3),
-    ];
-    Ok(before == [0, 2, 1, 3])
-}
-
 /// Whether a stack that is made of types has their objects, until all are cleared.
 fn is_cleared(alloc: Global) -> Result<bool, AllocError> {
     let types = [OTHER, VType::Double];
@@ -56,11 +44,6 @@ fn is_cleared(alloc: Global) -> Result<bool, AllocError> {
 #[test]
 fn objects_on_the_stack_are_replaced(rt: HostRuntime) {
     assert!(rt; is_replaced(rt.alloc()) == Ok(true));
-}
-
-#[test]
-fn items_before_an_object(rt: HostRuntime) {
-    assert!(rt; is_counted_before(rt.alloc()) == Ok(true));
 }
 
 #[test]

@@ -15,11 +15,10 @@ fn numbers(alloc: Global) -> Result<Locals<'static>, AllocError> {
 }
 
 fn are_numbers(locals: &Locals<'static>) -> bool {
-    let first = [VType::Top, VType::Int];
-    locals.get(3) == VType::Long
+    locals.get(0) == VType::Top
+        && locals.get(1) == VType::Int
+        && locals.get(3) == VType::Long
         && locals.get(9) == VType::Top
-        && locals.below(2) == first.as_slice()
-        && locals.below(9).len() == 4
 }
 
 /// Whether locals keep what they are given, until all are cleared.

@@ -1,9 +1,8 @@
 -- Declared stacks, by their rows and how high they are.
-use Rattle.std.proofs.Common.{◌≡◌, ◌∙◌, ℕ, suc, ◌+◌, ◌<◌, ◌≤◌, List, [], ◌∷◌, ◌++◌, Some, length, map, take, get_or, slice_get, reverse, refl, sym, ap, ap₂, subst, inl, inr, arith}
-use Rattle.std.proofs.lemmas.Option.{slice_get_read}
+use Rattle.std.proofs.Common.{◌≡◌, ◌∙◌, ℕ, suc, ◌+◌, ◌<◌, ◌≤◌, ◌⊎◌, zero, List, [], ◌∷◌, ◌++◌, Some, length, map, take, get_or, slice_get, reverse, refl, sym, ap, ap₂, subst, inl, inr, arith}
+use Rattle.std.proofs.lemmas.Option.{same_Some, slice_get_read}
 use Rattle.std.proofs.lemmas.List.{length-map, length-append, length-reverse, length-take-le, get_or-map, get_or_append_left, get_or_push, map_push, reverse-reverse, ext_get_or, get_or-take}
 use Rattle.frames.specs.Slots.{units_of}
-use Rattle.frames.proofs.StackFits.{get_end}
 use Rattle.frames.proofs.StackItems.{units_reverse}
 use Rattle.type_numbers.specs.Numbers.{Numbering}
 use Rattle.type_numbers.specs.Decoding.{types_by}
@@ -13,6 +12,13 @@ use Rattle.method_frames.specs.private.Counted.{IsCounted}
 use Rattle.method_frames.specs.private.Stacks.{stack_at, stacks_of, IsHeight, AreStacks}
 use Rattle.method_frames.specs.declared.stack_rows.Height.{Height}
 use Rattle.method_frames.proofs.Counting.{types_reverse}
+
+-- an element of a list with one more behind is one of the list, or that one
+pub get_end : {A : Type 0} (xs : List A) (x : A) (i : ℕ) (y : A) → slice_get (xs ++ x ∷ []) i ≡ Some y → (slice_get xs i ≡ Some y) ⊎ (x ≡ y)
+get_end [] x zero y e = inr (same_Some x y e)
+get_end [] x (suc i) y e = inl e
+get_end (z ∷ xs) x zero y e = inl e
+get_end (z ∷ xs) x (suc i) y e = get_end xs x i y e
 
 -- rows that were declared before stay
 pub height_kept : (rows new : NumberedRows) (h : Height) → new.declared ≡ rows.declared → length new.running ≡ length rows.running → IsHeight rows h → IsHeight new h

@@ -25,6 +25,9 @@ module _ (s : Numbering) (rows : Rows) (x : NumberedRows) (is : view_of s rows �
       let even = known.even row within in
       subst (IsGiven s) (sym e) (known.declared row within place (omega (arith, even, inside)))
 
+  pub declared_even : (row : ℕ) → row < length x.declared → length (get_or x.declared row []) ≡ length x.running
+  declared_even row r = subst (λ y. length (get_or y.declared row []) ≡ length y.running) is (known.even row (subst (λ y. row < length y.declared) (sym is) r))
+
 -- ---- changes
 
 none_held : {P : Type 0} {x : ℕ × ℕ} → Contains [] x → P

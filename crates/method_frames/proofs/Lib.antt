@@ -16,6 +16,7 @@ pub mod Heights
 pub mod Stacks
 pub mod StackComparing
 pub mod StackReplacing
+pub mod Typing
 pub mod Offsets
 pub mod MethodParts
 pub mod ItemMoves

@@ -4,13 +4,12 @@ use Rattle.std.specs.Prelude.{MatchOption}
 use Rattle.std.proofs.lemmas.Option.{slice_get_read}
 use Rattle.std.proofs.lemmas.List.{length-map, length-append, length-set, get_or-map, get_or_append_left, get_or_push, map_push}
 use Rattle.insn.specs.Offsets.{at_offset}
-use Rattle.frames.proofs.StackFits.{get_end}
 use Rattle.method_frames.specs.TypeRows.{NumberedRows, declared_in}
 use Rattle.method_frames.specs.NumberedStacks.{NumberedStacks, declared_stack}
 use Rattle.method_frames.specs.NumberedFrames.{NumberedFrame, NumberedFrames, empty_frame, declared_frame}
 use Rattle.method_frames.specs.private.Frames.{frame_at, frames_of, IsDeclared, IsTable, AreFrames}
 use Rattle.method_frames.specs.declared.method.Declared.{Declared}
-use Rattle.method_frames.proofs.Heights.{declared_more}
+use Rattle.method_frames.proofs.Heights.{declared_more, get_end}
 use Rattle.method_frames.proofs.Offsets.{same_table, table_more}
 
 -- declared rows stay, and the running one is as long as it was
@@ -155,6 +154,9 @@ module _ (rows : NumberedRows) (stacks : NumberedStacks) (flag : Bool) (m : ℕ)
   its_frame =
       ap (λ y. declared_frame y frame) (sym is) ∙ ap (λ p. p.1) (get_or-map (frame_at rows stacks) ds frame d (0, empty_frame) inside)
       ∙ ap (λ e. (frame_at rows stacks e).1) (sym read)
+
+  pub its_locals : length (declared_frame x frame).locals ≡ length x.running.locals
+  its_locals = ap (λ (f : NumberedFrame). length f.locals) its_frame ∙ is_declared.even ∙ ap (λ (y : NumberedFrames). length y.running.locals) is
 
 -- ---- one more
 

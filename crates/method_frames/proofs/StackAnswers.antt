@@ -9,10 +9,21 @@ use Rattle.frames.specs.Assignable.{type_answer}
 use Rattle.frames.specs.FrameAssignable.{both, width_of, item_answer, list_answer, stack_answer}
 use Rattle.frames.specs.Slots.{units_of}
 use Rattle.frames.proofs.Slots.{both_no, both_yes, both_assoc, stack_reverse}
-use Rattle.frames.proofs.Units.{not_empty}
 use Rattle.type_numbers.specs.Numbers.{Numbering}
 use Rattle.type_numbers.specs.Decoding.{type_by, types_by}
 use Rattle.method_frames.proofs.Counting.{types_reverse}
+
+not_empty : (t : VerificationType) → 1 ≤ width_of t
+not_empty top = omega arith
+not_empty int = omega arith
+not_empty float = omega arith
+not_empty long = omega arith
+not_empty double = omega arith
+not_empty null = omega arith
+not_empty (class name) = omega arith
+not_empty (array component) = omega arith
+not_empty uninit_this = omega arith
+not_empty (uninit offset) = omega arith
 
 module _ (classes : List ClassFact) where
   abbrev type : VerificationType → VerificationType → Outcome

@@ -5,7 +5,7 @@ use crate::objects::{OWN_OBJECT, made_object};
 use crate::stack_rows::StackRows;
 use crate::type_rows::TypeRows;
 use blocks::Row;
-use frames::both;
+use frames::{Frame, both};
 use hierarchy::{Answer, Classes};
 use insn::StackForm;
 use std::alloc::{AllocError, Global};
@@ -83,6 +83,7 @@ impl<'t, 'c, 'n, C: Classes> MethodFrames<'t, 'c, 'n, C> {
     ghost use Rattle.frames.specs.Slots.{units_of};
     ghost use Rattle.frames.specs.Assignable.{type_answer};
     ghost use Rattle.frames.specs.FrameAssignable.{frame_answer};
+    ghost use Rattle.frames.specs.FrameFact.{frame_of};
     ghost use Rattle.frames.specs.VerificationType.{VerificationType, top, uninit};
     ghost use Rattle.frames.specs.Objects.{replaced as type_replaced};
     ghost use Rattle.frames.specs.StackItems.{has_object};
@@ -351,6 +352,31 @@ impl<'t, 'c, 'n, C: Classes> MethodFrames<'t, 'c, 'n, C> {
         Some(place - 1)
     }
 
+    /// The running frame, by its types.
+    pub fn frame(&self, alloc: Global) -> Result<Frame<'n>, AllocError>
+        ensures { IfOk result (λ f. frame_of f ≡ frame_by self.now.types self.now.running) }
+    {
+        Ok(Frame {
+            locals: self.locals.running_types(alloc)?,
+            stack: self.stacks.running_types(alloc)?,
+            flag: self.flag,
+        })
+    }
+
+    /// The declared frame of a place, by its types.
+    pub fn declared_frame(&self, alloc: Global, frame: usize) -> Result<Frame<'n>, AllocError>
+        requires { frame < length self.now.declared }
+        ensures { IfOk result (λ f. frame_of f ≡ frame_by self.now.types (declared_frame self.now frame)) }
+    {
+        let declared = self.declared[frame];
+        let count = usize::from(self.max_locals);
+        Ok(Frame {
+            locals: self.locals.declared_types(alloc, declared.locals, count)?,
+            stack: self.stacks.declared_types(alloc, declared.stack)?,
+            flag: declared.flag,
+        })
+    }
+
     /// The running frame becomes a declared one: its locals at once, its stack item by item.
     pub fn take(&mut self, frame: usize) -> Result<(), AllocError>
         requires { frame < length self.old.declared }
@@ -372,6 +398,7 @@ impl<'t, 'c, 'n, C: Classes> MethodFrames<'t, 'c, 'n, C> {
         ensures told { IfOk result (λ answer. outcome_of answer
             ≡ frame_answer self.old.types.classes (frame_by self.old.types self.old.running)
             (frame_by self.old.types (declared_frame self.old frame))) }
+        ensures even { length (declared_frame self.old frame).locals ≡ length self.old.running.locals }
     {
         let declared = self.declared[frame];
         if self.flag && !declared.flag {
@@ -392,6 +419,7 @@ impl<'t, 'c, 'n, C: Classes> MethodFrames<'t, 'c, 'n, C> {
         ensures told { outcome_of result ≡ frame_answer self.old.types.classes
             (frame_by self.old.types (record self.old.running { stack = caught ∷ [] }))
             (frame_by self.old.types (declared_frame self.old frame)) }
+        ensures even { length (declared_frame self.old frame).locals ≡ length self.old.running.locals }
     {
         let declared = self.declared[frame];
         if self.flag && !declared.flag {

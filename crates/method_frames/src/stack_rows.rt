@@ -7,6 +7,7 @@ use crate::items::Items;
 use crate::type_rows::TypeRows;
 use crate::widths::extra;
 use blocks::Row;
+use frames::VType;
 use hierarchy::{Answer, Classes};
 use insn::StackForm;
 use std::alloc::{AllocError, Global};
@@ -93,7 +94,7 @@ impl<'t, 'c, 'n, C: Classes> StackRows<'t, 'c, 'n, C> {
     ghost use Rattle.insn.specs.Views.{stack_form_view};
     ghost use Rattle.frames.specs.Slots.{is_wide, units_of};
     ghost use Rattle.frames.specs.FrameAssignable.{item_answer, stack_answer};
-    ghost use Rattle.frames.specs.VerificationType.{VerificationType};
+    ghost use Rattle.frames.specs.VerificationType.{VerificationType, type_of};
     ghost use Rattle.frames.specs.Objects.{replaced as type_replaced};
     ghost use Rattle.frames.specs.StackItems.{has_object};
     ghost use Rattle.type_numbers.specs.Numbers.{Numbering, IsGiven, IsNumber};
@@ -226,6 +227,28 @@ impl<'t, 'c, 'n, C: Classes> StackRows<'t, 'c, 'n, C> {
     {
         self.items.clear();
         self.written = 0;
+    }
+
+    /// The types of the running stack, from the bottom up. The only refusal is 1.
+    pub fn running_types(&self, alloc: Global) -> Result<Vec<VType<'n>>, AllocError>
+        ensures { IfOk result (λ v. reverse (map type_of v.items) ≡ types_by self.now.types self.now.running) }
+    {
+        let depth = self.items.count();
+        let mut types = Vec::with_capacity(alloc, depth)?;
+        for place in 0..depth {
+            types.push(self.rows.types().vtype(self.items.get(place)))?;
+        }
+        Ok(types)
+    }
+
+    /// The types of a declared stack, from the bottom up. The only refusal is 1.
+    pub fn declared_types(&self, alloc: Global, stack: usize) -> Result<Vec<VType<'n>>, AllocError>
+        requires { stack < length self.now.declared }
+        ensures { IfOk result (λ v. reverse (map type_of v.items)
+            ≡ types_by self.now.types (declared_stack self.now stack)) }
+    {
+        let height = self.declared[stack];
+        self.rows.declared_types(alloc, height.row, height.depth)
     }
 
     /// Declares a stack that holds what the running one does, and tells its place. The only refusal is 1.

@@ -6,7 +6,7 @@ ghost use Rattle.method_frames.specs.private.Holders.{AreListed, Replaces};
 
 use crate::holders::{Holders, place_in};
 use blocks::{Arena, Row};
-use frames::both;
+use frames::{VType, both};
 use hierarchy::{Answer, Classes};
 use std::alloc::{AllocError, Global};
 use std::marker::Model;
@@ -79,8 +79,8 @@ fn replace_listed(
 }
 
 impl<'t, 'c, 'n, C: Classes> TypeRows<'t, 'c, 'n, C> {
-    ghost use Rattle.std.specs.Prelude.{◌≡◌, ◌≢◌, ◌<◌, ◌^◌, ◌∷◌, ◌++◌, ◌⊎◌, ◌≤◌, ℕ, true, false, [], length, map, drop, replicate, slice_index, slice_set, IfOk, OnOk, OnErr};
-    ghost use Rattle.frames.specs.VerificationType.{VerificationType};
+    ghost use Rattle.std.specs.Prelude.{◌≡◌, ◌≢◌, ◌<◌, ◌^◌, ◌∷◌, ◌++◌, ◌⊎◌, ◌≤◌, ℕ, true, false, [], length, map, take, drop, replicate, slice_index, slice_set, IfOk, OnOk, OnErr};
+    ghost use Rattle.frames.specs.VerificationType.{VerificationType, type_of};
     ghost use Rattle.frames.specs.Objects.{replaced as type_replaced};
     ghost use Rattle.method_frames.specs.ObjectLaws.{IsObjectType};
     ghost use Rattle.method_frames.specs.Objects.{is_object, replaced};
@@ -192,6 +192,36 @@ impl<'t, 'c, 'n, C: Classes> TypeRows<'t, 'c, 'n, C> {
         } else {
             0
         }
+    }
+
+    /// The types of the running row. The only refusal is 1.
+    pub fn running_types(&self, alloc: Global) -> Result<Vec<VType<'n>>, AllocError>
+        ensures { IfOk result (λ v. map type_of v.items ≡ types_by self.now.types self.now.running) }
+    {
+        let mut types = Vec::with_capacity(alloc, self.rows.slots())?;
+        for place in 0..self.rows.slots() {
+            types.push(self.types.vtype(self.get(place)))?;
+        }
+        Ok(types)
+    }
+
+    /// The types of so many first places of a declared row. The only refusal is 1.
+    pub fn declared_types(
+        &self,
+        alloc: Global,
+        row: Row,
+        count: usize,
+    ) -> Result<Vec<VType<'n>>, AllocError>
+        requires row { row < length self.now.declared }
+        requires count { count ≤ length self.now.running }
+        ensures { IfOk result (λ v. map type_of v.items
+            ≡ types_by self.now.types (take count (declared_in self.now row))) }
+    {
+        let mut types = Vec::with_capacity(alloc, count)?;
+        for place in 0..count {
+            types.push(self.types.vtype(self.declared(row, place)))?;
+        }
+        Ok(types)
     }
 
     /// Declares a row that holds what the running one does. The only refusal is 1.

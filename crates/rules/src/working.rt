@@ -1,13 +1,11 @@
 //! The running frame, which instructions change in place.
-ghost use Rattle.std.specs.Prelude.{◌≡◌, ℕ, map, get_or, length, OnOk, IfSome};
-ghost use Rattle.frames.specs.DeclaredTables.{declared_view, AreKept};
+ghost use Rattle.std.specs.Prelude.{◌≡◌, ℕ, map, get_or, length, OnOk};
 ghost use Rattle.frames.specs.Locals.{local};
 ghost use Rattle.frames.specs.VerificationType.{type_of, top};
 ghost use Rattle.rules.specs.After.{flag_after};
 
 use crate::slots::{is_wide, store};
-use frames::{Declared, Frame, Locals, OperandStack, StackFitting, VType};
-use hierarchy::{Answer, Classes};
+use frames::{Frame, Locals, OperandStack, VType};
 use insn::StackForm;
 use std::alloc::{AllocError, Global};
 
@@ -23,7 +21,7 @@ pub struct Working<'a> {
 }
 
 impl<'a> Working<'a> {
-    ghost use Rattle.std.specs.Prelude.{◌<◌, ◌≤◌, ◌↔◌, ℕ, false, [], ◌∷◌, IsTrue, nat_lt, length, map, reverse, set, get_or, MatchOption, OnOk, IfOk, IfSome};
+    ghost use Rattle.std.specs.Prelude.{◌<◌, ◌≤◌, ◌↔◌, ℕ, false, [], ◌∷◌, IsTrue, nat_lt, length, map, MatchOption, OnOk, IfOk};
     ghost use Rattle.frames.specs.Slots.{units_of, is_wide};
     ghost use Rattle.insn.specs.Stacks.{rearranged};
     ghost use Rattle.insn.specs.Views.{stack_form_view};
@@ -35,13 +33,6 @@ impl<'a> Working<'a> {
     ghost use Rattle.rules.specs.Views.{stack_of};
     ghost use Rattle.rules.specs.Working.{empty_frame, with_locals};
     ghost use Rattle.rules.specs.Held.{held};
-    ghost use Rattle.frames.specs.HeldFrames.{held_locals, held_frame};
-    ghost use Rattle.hierarchy.specs.Answer.{outcome_of};
-    ghost use Rattle.frames.specs.Assignable.{type_answer};
-    ghost use Rattle.frames.specs.FrameAssignable.{list_answer, frame_answer};
-    ghost use Rattle.frames.specs.DeclaredTables.{declared_view, IsOf, AreKept};
-    ghost use Rattle.frames.specs.StackFitting.{AreStackFitting, AreStackFittingFor};
-    ghost use Rattle.frames.specs.declared.declared_frames.DeclaredFrames.{DeclaredFrames};
 
     /// A frame with all locals top and nothing on the stack.
     pub fn new(alloc: Global, max_locals: u16, flag: bool) -> Working<'a>
@@ -110,75 +101,11 @@ impl<'a> Working<'a> {
         self.flag
     }
 
-    /// Its local variables, from 0 up: all beyond these are top.
-    pub fn locals(&self) -> &[VType<'a>]
-        ensures same { let f = held self.now in held_locals result.now (length f.locals) ≡ f.locals }
-        ensures few { length result.now ≤ length (held self.now).locals }
-    {
-        self.locals.below(usize::from(self.max_locals))
-    }
-
     /// The stack from the bottom up.
     pub fn stack(&self) -> &[VType<'a>]
         ensures { stack_of result.now ≡ (held self.now).stack }
     {
         self.stack.types()
-    }
-
-    /// Begins anew with these locals and nothing on the stack, in the memory that it has.
-    pub fn start(
-        &mut self,
-        locals: &[VType<'a>],
-        max_locals: u16,
-        flag: bool,
-    ) -> Result<(), AllocError>
-        requires { length locals.now ≤ max_locals }
-        ensures { OnOk result (held self.new ≡ held_frame locals.now max_locals [] flag) }
-    {
-        self.locals.clear();
-        self.stack.clear();
-        self.max_locals = max_locals;
-        self.flag = flag;
-        set_all(locals, &mut self.locals)
-    }
-
-    /// Whether this frame, whose locals have this answer, is assignable to a declared one (JVMS 4.10.1.4). Of its items,
-    /// only those are compared that are not known to fit.
-    pub fn answer_for<C: Classes>(
-        &self,
-        declared: &Declared<'_, 'a>,
-        locals: Answer<'a>,
-        items: &mut StackFitting,
-        classes: &C,
-    ) -> Answer<'a>
-        requires locals { outcome_of locals ≡ list_answer (type_answer (C.content classes.now)) (held self.now).locals
-            (declared_view declared.now).locals }
-        requires items { AreStackFittingFor (C.content classes.now) declared.now
-            (reverse (held self.now).stack) items.old }
-        ensures told { outcome_of result
-            ≡ frame_answer (C.content classes.now) (held self.now) (declared_view declared.now) }
-        ensures items { (t : DeclaredFrames) → IsOf t declared.now
-            → AreStackFitting (C.content classes.now) t (reverse (held self.now).stack) items.new }
-    {
-        items.answer(declared, locals, self.stack.types(), self.flag, classes)
-    }
-
-    /// Becomes a declared frame, in the memory that it has. Where it has the locals of another frame of the same stack
-    /// map, that one may be `kept`: then only the locals are written that the two frames do not share. Nothing is said
-    /// of the locals and the stack where memory ran out.
-    pub fn take_on(
-        &mut self,
-        declared: &Declared<'_, 'a>,
-        kept: Option<Declared<'_, 'a>>,
-    ) -> Result<(), AllocError>
-        requires size { length (declared_view declared.now).locals ≡ length (held self.old).locals }
-        requires kept { IfSome kept (AreKept declared.now (held self.old).locals) }
-        ensures { OnOk result (held self.new ≡ declared_view declared.now) }
-    {
-        declared.write_locals(kept, &mut self.locals)?;
-        self.stack.take_on(declared)?;
-        self.flag = declared.flag();
-        Ok(())
     }
 
     /// Stores a type to a local variable. A long or double makes the next one top; where the one before held a long or

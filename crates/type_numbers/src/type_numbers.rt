@@ -69,6 +69,13 @@ impl<'c, 'n, C: Classes> TypeNumbers<'c, 'n, C> {
         }
     }
 
+    /// The classes of the hierarchy.
+    pub fn classes(&self) -> &'c C
+        ensures { C.content result.now ≡ self.now.classes }
+    {
+        self.classes
+    }
+
     /// The number of a type. The only refusal is 1, where memory runs out.
     pub fn number(&mut self, vtype: &VType<'n>) -> Result<u32, AllocError>
         ensures given { IfOk result (λ n. IsNumber self.new n (type_of vtype.now)) }

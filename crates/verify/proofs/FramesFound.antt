@@ -1,6 +1,6 @@
 -- From the frames at an instruction of a method's code to those of the method.
-use Rattle.std.proofs.Common.{◌≡◌, ℕ, List, Some, None, Result, Ok, Err, refl, sym, ◌∙◌, subst, inl, inr}
-use Rattle.std.specs.Prelude.{◌≢◌, IfOk}
+use Rattle.std.proofs.Common.{◌≡◌, ℕ, Bool, List, Option, Some, None, Result, Ok, Err, refl, sym, ◌∙◌, subst, inl, inr}
+use Rattle.std.specs.Prelude.{◌≢◌, IfOk, MatchOption}
 use Rattle.classfile.specs.Values.{CodeBody}
 use Rattle.classfile.specs.Methods.{JudgedClass, Method, method_of}
 use Rattle.classfile.specs.MethodParts.{code_at}
@@ -12,16 +12,16 @@ use Rattle.insn.specs.Code.{SpellsCode, FaultyCode, UnlessMemory}
 use Rattle.insn.specs.Meanings.{Act}
 use Rattle.insn.specs.Offsets.{acts}
 use Rattle.insn.proofs.CodeLaws.{code_or_fault}
+use Rattle.rules.specs.Reasons.{reason_number}
 use Rattle.rules.specs.Table.{typing_rule}
 use Rattle.verify.specs.declared.frames_at.FramesAt.{FramesAt}
+use Rattle.verify.specs.declared.frames_at.Refusal.{Refusal}
+use Rattle.verify.specs.declared.verdict.Verdict.{Verdict}
 use Rattle.verify.specs.declared.verdict.VerifyFault.{VerifyFault}
-use Rattle.verify.specs.Coming.{no_frames, frames_at, frames_view, HasNoInstructions, AreFramesOf}
+use Rattle.verify.specs.Coming.{FramesFact, no_frames, frames_at, frames_view, HasNoInstructions, AreFramesOf, IsFramedIf}
 
 some_same : {A : Type 0} (a b : A) → Some a ≡ Some b → a ≡ b
 some_same a b e = cc
-
-none_some : {A : Type 0} (a : A) → None ≡ Some a → ⊥
-none_some a e = cc
 
 told : (code : List ℕ) (fault : CodeFault) → fault ≢ codes.OutOfMemory → UnlessMemory fault (FaultyCode code fault) → FaultyCode code fault
 told code codes.OutOfMemory f h = absurd (f refl)
@@ -50,6 +50,10 @@ module _ (classes : List ClassFact) (c : JudgedClass) (number reason at : ℕ) w
       inl (record { body = body; has_code = has; instructions = xs; spelled = spelled; method = method; says = says; same = same })
   found_in body xs method (Err e) has spelled says same = tt
 
-  -- a method without code
-  pub without_body : code_at c.file number ≡ None → AreFramesOf classes c number reason at no_frames
-  without_body none = inr ((λ body xs there spelled. none_some body (sym none ∙ there)), refl)
+-- by the verdict on the method
+pub framed_by : (classes : List ClassFact) (c : JudgedClass) (number : ℕ) (told : Bool) (v : Verdict) (x : FramesFact) (r : Option Refusal)
+    → MatchOption r (x ≡ no_frames) (λ k. AreFramesOf classes c number (reason_number k.reason) k.at x)
+    → MatchOption r (x ≡ no_frames → IsFramedIf told classes c number v x) (λ k. AreFramesOf classes c number (reason_number k.reason) k.at x → IsFramedIf told classes c number v x)
+    → IsFramedIf told classes c number v x
+framed_by classes c number told v x None found by = by found
+framed_by classes c number told v x (Some k) found by = by found

@@ -12,15 +12,14 @@ pub mod ToldEntries
 pub mod MapReading
 pub mod Decoded
 pub mod Caught
-pub mod TableEntries
 pub mod Going
 pub mod Ends
 pub mod Plain
 pub mod Repeated
 pub mod Unlike
+pub mod EntriesAtFault
 pub mod Detailed
 pub mod Onward
-pub mod Parameters
 pub mod Summaries
 pub mod MethodCode
 pub mod Named

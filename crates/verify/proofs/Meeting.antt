@@ -1,22 +1,25 @@
 -- The frames at an instruction, from one instruction to the next.
-use Rattle.std.proofs.Common.{◌≡◌, ℕ, zero, suc, ◌+◌, ◌-◌, ◌<◌, ◌≤◌, Bool, true, false, ◌&&◌, is_none, nat_eq, nat_lt, List, [], ◌∷◌, ◌++◌, length, map, ◌⊎◌, inl, inr, Option, Some, None, Result, Ok, Err, refl, sym, ◌∙◌, ap, arith, if◌then◌else◌, eq-eqb, eqb-true}
-use Rattle.std.specs.Prelude.{◌≢◌, IfOk, replicate, slice_get}
-use Rattle.std.proofs.lemmas.List.{length-map}
+use Rattle.std.proofs.Common.{◌≡◌, ℕ, ◌+◌, ◌≤◌, Bool, true, false, ◌&&◌, is_none, nat_eq, nat_lt, List, ◌∷◌, length, ◌⊎◌, inl, inr, Option, Some, None, Result, Ok, Err, refl, sym, ◌∙◌, ap, subst, arith}
+use Rattle.std.specs.Prelude.{◌≢◌, IfOk}
+use Rattle.std.specs.Option.{option_map, option_map_or}
 use Rattle.std.proofs.lemmas.Bool.Decides.{nat_tests}
 use Rattle.layout.specs.Place.{Place}
-use Rattle.classfile.specs.Methods.{Method, receiver_of}
+use Rattle.classfile.specs.Methods.{Method}
 use Rattle.hierarchy.specs.Class.{ClassFact}
 use Rattle.insn.specs.Instructions.{Instruction}
 use Rattle.insn.specs.Meanings.{Act}
 use Rattle.insn.specs.Offsets.{at_offset, acts, IsStart, StartsRise}
 use Rattle.insn.proofs.Readings.{reading_at}
-use Rattle.frames.specs.declared.vtype.VType.{VType}
-use Rattle.frames.specs.VerificationType.{VerificationType, type_of, top}
-use Rattle.frames.specs.FrameFact.{FrameFact}
-use Rattle.frames.specs.HeldFrames.{held_locals, held_frame}
+use Rattle.frames.specs.declared.frame.Frame.{Frame}
+use Rattle.frames.specs.FrameFact.{FrameFact, frame_of}
 use Rattle.frames.specs.Slots.{in_locals}
 use Rattle.frames.specs.Conditions.{Conditions, least}
-use Rattle.rules.specs.TypingRules.{falls}
+use Rattle.type_numbers.specs.Numbers.{Numbering}
+use Rattle.method_frames.specs.MapFrames.{frames_by}
+use Rattle.method_frames.specs.NumberedFrames.{NumberedFrames}
+use Rattle.numbered_rules.specs.Held.{held, IsRunning}
+use Rattle.numbered_rules.proofs.Taking.{types_stay}
+use Rattle.rules.specs.TypingRules.{TypingRule, falls}
 use Rattle.rules.specs.Table.{typing_rule}
 use Rattle.rules.specs.After.{after}
 use Rattle.rules.specs.Rules.{conditions}
@@ -25,42 +28,15 @@ use Rattle.rules.specs.Reasons.{reason_view}
 use Rattle.rules.specs.declared.reason.Reason.{Reason as RuleReason}
 use Rattle.rules.specs.declared.reason.Reason.TheVariants as reasons
 use Rattle.verify.specs.declared.verdict.VerifyFault.{VerifyFault}
-use Rattle.verify.specs.InitialFrames.{initial_types, initial_frame, is_uninitialized}
-use Rattle.verify.specs.TypeSafety.{Frames, Declares}
+use Rattle.verify.specs.InitialFrames.{initial_types, initial_frame}
+use Rattle.verify.specs.TypeSafety.{Frames}
 use Rattle.verify.specs.Verdict.{MapRefusal, frames_declared}
 use Rattle.verify.specs.Coming.{FramesFact, frames_with, before, frame_if, going, met, met_under, without_map, frames_at}
-use Rattle.verify.proofs.Declared.{good_frames, full_length}
+use Rattle.verify.specs.Details.{DetailFact, detail_at}
+use Rattle.verify.specs.private.Ran.{IsIf}
+use Rattle.verify.proofs.Declared.{full_length}
 use Rattle.verify.proofs.Going.{ways}
-use Rattle.verify.proofs.Premises.{not_at, frames_there}
-
-some_same : {A : Type 0} (a b : A) → Some a ≡ Some b → a ≡ b
-some_same a b e = cc
-
-start_in : {A : Type 0} (y : ℕ × A) (ys : List (ℕ × A)) (at : ℕ) (b : Bool) → nat_eq y.0 at ≡ b → IsStart ys at → IsStart (y ∷ ys) at
-start_in y ys at true q s = record { what = y.1; here = rw q refl }
-start_in y ys at false q s = record { what = s.what; here = rw q s.here }
-
--- an item at a place of a list stands at its offset, or another item in front of it does
-pub offset_there : {A : Type 0} (xs : List (ℕ × A)) (i : ℕ) (x : ℕ × A) → slice_get xs i ≡ Some x → IsStart xs x.0
-offset_there [] i x e = cc
-offset_there {A = A} (y ∷ ys) zero x e =
-    let same : y ≡ x = some_same y x e in
-    record { what = y.1; here = rw (eq-eqb y.0 x.0 (ap (λ (z : ℕ × A). z.0) same)) refl }
-offset_there (y ∷ ys) (suc i) x e = start_in y ys x.0 (nat_eq y.0 x.0) refl (offset_there ys i x e)
-
--- a frame is declared at the start of an instruction
-pub declared_starts : (m : Method Act) (frames : Frames) → frames_declared m ≡ Ok frames → (at : ℕ) → IsStart frames at → IsStart m.code at
-declared_starts m frames e at s =
-    let d : Declares m frames = frames_there m frames e in
-    (good_frames m.constant_pool m.code m.max_locals m.max_stack None (initial_types m) d.entries frames d.declared at s.what s.here).start
-
--- an instruction behind the first one
-pub start_behind : (c : ℕ × Act) (cs : List (ℕ × Act)) (at : ℕ) → c.0 < at → IsStart (c ∷ cs) at → IsStart cs at
-start_behind c cs at lt s = by (nat_eq c.0 at) refl s.here
-  where
-    by : (b : Bool) → nat_eq c.0 at ≡ b → (if b then Some c.1 else at_offset cs at) ≡ Some s.what → IsStart cs at
-    by true e q = absurd (omega (arith, lt, eqb-true c.0 at e))
-    by false e q = record { what = s.what; here = q }
+use Rattle.verify.proofs.Premises.{not_at}
 
 -- no instruction stands in front of where they begin
 pub not_before : (low : ℕ) (cs : List (ℕ × Act)) (at : ℕ) → StartsRise low cs → IsStart cs at → low ≤ at
@@ -77,47 +53,51 @@ module _ (classes : List ClassFact) (m : Method Act) (frames : Frames) (reason a
     passed : nat_eq c.0 at ≡ false → met_at (c ∷ cs) coming ≡ met_at cs (goes_from c coming (at_offset frames c.0))
     passed e = rw e refl
 
-    pub goes_past : (total : FramesFact) → total ≡ met_at (c ∷ cs) coming → nat_eq c.0 at ≡ false → (declared next : Option FrameFact) → declared ≡ at_offset frames c.0 → next ≡ goes_from c coming declared → total ≡ met_at cs next
-    goes_past total same e declared next d n = same ∙ passed e ∙ ap (λ o. met_at cs (goes_from c coming o)) (sym d) ∙ ap (met_at cs) (sym n)
+    pub goes_past : (total : FramesFact) → total ≡ met_at (c ∷ cs) coming → nat_eq c.0 at ≡ false → (next : Option FrameFact) → next ≡ goes_from c coming (at_offset frames c.0) → total ≡ met_at cs next
+    goes_past total same e next n = same ∙ passed e ∙ ap (met_at cs) (sym n)
 
-    pub meets : (total : FramesFact) → total ≡ met_at (c ∷ cs) coming → nat_eq c.0 at ≡ true → (declared : Option FrameFact) → declared ≡ at_offset frames c.0 → total ≡ frames_with classes m frames c.0 c.1 (typing_rule m c.1) reason coming declared
-    meets total same e declared d =
-        let here : met_at (c ∷ cs) coming ≡ frames_with classes m frames c.0 c.1 (typing_rule m c.1) reason coming (at_offset frames c.0) = rw e refl in
-        same ∙ here ∙ ap (frames_with classes m frames c.0 c.1 (typing_rule m c.1) reason coming) (sym d)
+    pub meets : (total : FramesFact) → total ≡ met_at (c ∷ cs) coming → nat_eq c.0 at ≡ true → total ≡ frames_with classes m frames c.0 c.1 (typing_rule m c.1) reason coming (at_offset frames c.0)
+    meets total same e = same ∙ rw e refl
 
-  -- the frame that comes to a declared one in front of the offset does not matter
-  module _ (last : ℕ) (lt : last < at) (declared : IsStart frames last) where
-    pub independent : (cs : List (ℕ × Act)) (low : ℕ) → StartsRise low cs → IsStart cs last → (f g : Option FrameFact) → met_at cs f ≡ met_at cs g
-    independent [] low rise s f g = let none : None ≡ Some s.what = s.here in cc
-    independent (c ∷ cs) low rise s f g = by (nat_eq c.0 last) refl s.here (λ t x y. independent cs (c.0 + 1) rise.1 t x y)
-      where
-        by : (b : Bool) → nat_eq c.0 last ≡ b → (if b then Some c.1 else at_offset cs last) ≡ Some s.what
-            → (IsStart cs last → (x y : Option FrameFact) → met_at cs x ≡ met_at cs y) → met_at (c ∷ cs) f ≡ met_at (c ∷ cs) g
-        by true e q rec =
-            let here : c.0 ≡ last = eqb-true c.0 last e in
-            let there : at_offset frames c.0 ≡ Some declared.what = ap (at_offset frames) here ∙ declared.here in
-            let apart : nat_eq c.0 at ≡ false = grind (arith, nat_tests, here, lt) in
-            passed c cs f apart ∙ ap (λ o. met_at cs (goes_from c f o)) there ∙ sym (passed c cs g apart ∙ ap (λ o. met_at cs (goes_from c g o)) there)
-        by false e q rec =
-            let t : IsStart cs last = record { what = s.what; here = q } in
-            let le : c.0 + 1 ≤ last = not_before (c.0 + 1) cs last rise.1 t in
-            let apart : nat_eq c.0 at ≡ false = grind (arith, nat_tests, le, lt) in
-            passed c cs f apart ∙ rec t _ _ ∙ sym (passed c cs g apart)
+-- where the running frame alone is another, the frames are declared as they were
+module _ (old now : NumberedFrames) (r : IsRunning old now) (m : Method Act) (at : ℕ) (p : TypingRule) where
+  pub going_from : (coming : Option FrameFact) → going now.types.classes m at p (before coming (at_offset (frames_by now.types now.declared) at)) ≡ going old.types.classes m at p (before coming (at_offset (frames_by old.types old.declared) at))
+  going_from coming = ap (λ (y : NumberedFrames). going y.types.classes m at p (before coming (at_offset (frames_by y.types y.declared) at))) r.others
 
-    pub skipped : (c : ℕ × Act) (cs : List (ℕ × Act)) (low : ℕ) → StartsRise low (c ∷ cs) → c.0 < last → IsStart (c ∷ cs) last → (coming : Option FrameFact) (total : FramesFact)
-        → total ≡ met_at (c ∷ cs) coming → total ≡ met_at cs coming
-    skipped c cs low rise less s coming total same =
-        let apart : nat_eq c.0 at ≡ false = grind (arith, nat_tests, less, lt) in
-        same ∙ passed c cs coming apart ∙ independent cs (c.0 + 1) rise.1 (start_behind c cs last less s) _ coming
+  module _ (a : Act) (reason : ℕ) where
+    pub met_from : (coming : Option FrameFact) → frames_with now.types.classes m (frames_by now.types now.declared) at a p reason coming (at_offset (frames_by now.types now.declared) at)
+        ≡ frames_with old.types.classes m (frames_by old.types old.declared) at a p reason coming (at_offset (frames_by old.types old.declared) at)
+    met_from coming = ap (λ (y : NumberedFrames). frames_with y.types.classes m (frames_by y.types y.declared) at a p reason coming (at_offset (frames_by y.types y.declared) at)) r.others
 
-  -- where the last declared frame in front of the offset is behind the first instruction, it is ahead
-  pub last_ahead : (frames_are : frames_declared m ≡ Ok frames) (last : ℕ) → (last ≡ 0) ⊎ ((last < at) × IsStart frames last) → (n : ℕ) → n < last → IsStart m.code last
-  last_ahead e last (inl z) n lt = absurd (omega (arith, lt, z))
-  last_ahead e last (inr d) n lt = declared_starts m frames e last d.1
+    abbrev with_old : Option FrameFact → Option FrameFact → FramesFact
+    with_old = frames_with old.types.classes m (frames_by old.types old.declared) at a p reason
 
-  pub is_in_front : (last : ℕ) → (last ≡ 0) ⊎ ((last < at) × IsStart frames last) → (n : ℕ) → n < last → (last < at) × IsStart frames last
-  is_in_front last (inl z) n lt = absurd (omega (arith, lt, z))
-  is_in_front last (inr d) n lt = d
+    -- frames that were found, and what is wrong with them
+    pub met_is : (found there coming declared : Option FrameFact) (detail : Option DetailFact) → found ≡ coming → there ≡ declared
+        → detail ≡ detail_at now.types.classes m (frames_by now.types now.declared) at a p reason found there (before found there)
+        → (let x : FramesFact = record { coming = found; declared = there; detail = detail } in x) ≡ with_old coming declared
+    met_is found there coming declared detail c d told =
+        ap (λ (o : Option DetailFact). let x : FramesFact = record { coming = found; declared = there; detail = o } in x) told
+        ∙ ap (λ (y : NumberedFrames). frames_with y.types.classes m (frames_by y.types y.declared) at a p reason found there) r.others
+        ∙ ap (λ o. with_old o there) c ∙ ap (with_old coming) d
+
+-- what goes on with the running frame, which is the one before the instruction
+pub goes_before : (old now : NumberedFrames) → IsRunning old now → (m : Method Act) (at : ℕ) (p : TypingRule) (is : Bool) (o : Option FrameFact) → is ≡ true → frame_if is (held now) ≡ o
+    → (r : Result Bool VerifyFault) (f : FrameFact) → IfOk r (λ goes. frame_if goes f ≡ going now.types.classes m at p (Some (held now)))
+    → IfOk r (λ goes. frame_if goes f ≡ going old.types.classes m at p o)
+goes_before old now run m at p is o there e r f =
+    let same = ap (λ (s : Numbering). going s.classes m at p (Some (held now))) (types_stay old now run) ∙ ap (going old.types.classes m at p) (sym (ap (λ b. frame_if b (held now)) there) ∙ e) in
+    subst (λ (z : Option FrameFact). IfOk r (λ goes. frame_if goes f ≡ z)) same
+
+pub stops_before : (classes : List ClassFact) (m : Method Act) (at : ℕ) (p : TypingRule) (f : FrameFact) (is : Bool) (o : Option FrameFact) → is ≡ false → frame_if is f ≡ o → None ≡ going classes m at p o
+stops_before classes m at p f is o none e = ap (going classes m at p) (sym (ap (λ b. frame_if b f) none) ∙ e)
+
+-- the running frame is the one before the instruction, where there is one
+pub before_is : (comes : Bool) (f now : FrameFact) (coming : Option FrameFact) (declared : Option Frame) → coming ≡ frame_if comes f → now ≡ option_map_or frame_of declared f
+    → IsIf (before coming (option_map frame_of declared)) now
+before_is true f now coming None e q = subst (λ o. IsIf o now) (sym e) (sym q)
+before_is false f now coming None e q = subst (λ o. IsIf o now) (sym e) tt
+before_is comes f now coming (Some d) e q = sym q
 
 -- ---- what goes on from an instruction
 
@@ -146,21 +126,7 @@ module _ (classes : List ClassFact) (m : Method Act) (at : ℕ) (a : Act) (f now
       ∙ ap (λ b. frame_if b (after m at (typing_rule m a) f)) (sym (and_false (falls (typing_rule m a)) (is_none (least rule)) (ap is_none w)))
   stopped_is e (Err x) o p = tt
 
-pub stopped_length : (e : RuleReason) (r : Result Bool VerifyFault) (n k : ℕ) → IfOk r (λ goes. (goes ≡ false) × (e ≢ reasons.OutOfMemory)) → IfOk r (λ goes. goes ≡ true → n ≡ k)
-stopped_length e (Ok goes) n k p = λ t. absurd (let no : false ≡ true = sym p.0 ∙ t in cc)
-stopped_length e (Err x) n k p = tt
-
 -- ---- the frame with which a method begins
-
-pub started : (m : Method Act) (locals : List VType) (flag : Bool) → map type_of locals ≡ in_locals (initial_types m) → flag ≡ is_uninitialized (receiver_of m)
-    → held_frame locals m.max_locals [] flag ≡ initial_frame m
-started m locals flag e k =
-    let n = m.max_locals in
-    let ts = in_locals (initial_types m) in
-    let all : held_locals locals n ≡ (initial_frame m).locals =
-    ap (λ l. l ++ replicate (n - length locals) top) e ∙ ap (λ i. ts ++ replicate (n - i) top) (sym (length-map locals type_of) ∙ ap length e) in
-    ap (λ (l : List VerificationType). let x : FrameFact = record { locals = l; stack = []; flag = flag } in x) all
-    ∙ ap (λ (b : Bool). let x : FrameFact = record { locals = (initial_frame m).locals; stack = []; flag = b } in x) k
 
 pub started_length : (m : Method Act) → nat_lt m.max_locals (length (in_locals (initial_types m))) ≡ false → length (initial_frame m).locals ≡ m.max_locals
 started_length m e = full_length m.max_locals (initial_types m) e
@@ -180,12 +146,9 @@ map_is classes m why reason at wide d =
 
 -- ---- the bytes that are left
 
--- they are these instructions, and with them the frames at the offset are what they are; a declared frame in front of the offset is ahead
-pub record Walks (classes : List ClassFact) (m : Method Act) (frames : Frames) (reason at last size : ℕ) (p : Place) (coming : Option FrameFact) (total : FramesFact) : Type 0 where
+-- they are these instructions, and with them the frames at the offset are what they are
+pub record Walks (classes : List ClassFact) (m : Method Act) (frames : Frames) (reason at size : ℕ) (p : Place) (coming : Option FrameFact) (total : FramesFact) : Type 0 where
   pub instructions : List (ℕ × Instruction)
   pub read : reading_at p ≡ Ok instructions
   pub same : total ≡ met_at classes m frames reason at (acts instructions) coming
-  pub low : ℕ
-  pub rises : StartsRise low (acts instructions)
-  pub ahead : p.at < last → IsStart (acts instructions) last
   pub within : p.at + length p.rest ≡ size

@@ -1,126 +1,131 @@
 -- Differences from the frames at targets and at handlers.
-use Rattle.std.proofs.Common.{◌≡◌, ◌⊎◌, inl, inr, ℕ, suc, ◌+◌, ◌-◌, ◌<◌, ℤ, pos, negsuc, Bool, true, false, true≢false, is_some, ◌||◌, nat_eq, slice_get, List, [], ◌∷◌, ◌++◌, length, map, drop, Option, Some, None, option_map, Bor, Result, Ok, Err, refl, sym, ◌∙◌, ap, arith, eqb-true}
-use Rattle.std.proofs.lemmas.List.{drop_more, append-nil, length-map}
-use Rattle.std.proofs.lemmas.Option.{slice_get-get_or}
-use Rattle.std.specs.Prelude.{◌≢◌, IsTrue, IfOk, IfSome, replicate, slice_index_or}
-use Rattle.std.specs.declared.alloc.AllocError.{AllocError}
-use Rattle.std.specs.Option.{option_or}
+use Rattle.std.proofs.Common.{◌≡◌, ℕ, zero, suc, ◌+◌, ◌≤◌, ◌<◌, ℤ, pos, negsuc, Bool, true, false, true≢false, is_some, ◌||◌, nat_eq, slice_get, List, [], ◌∷◌, length, drop, Option, Some, None, option_map, refl, sym, ◌∙◌, ap, arith, eqb-true}
+use Rattle.std.proofs.lemmas.List.{length-map}
+use Rattle.std.specs.Prelude.{◌≢◌, IsTrue}
+use Rattle.std.specs.Int.RustNames.{unsigned_abs}
+use Rattle.std.specs.Option.{option_or, option_and_then}
 use Rattle.hierarchy.specs.Class.{ClassFact}
-use Rattle.classfile.specs.Methods.{Method, ExceptionEntry, covers}
-use Rattle.insn.specs.Meanings.{Act}
+use Rattle.classfile.specs.Methods.{ExceptionEntry}
 use Rattle.insn.specs.Offsets.{at_offset}
-use Rattle.frames.specs.Conditions.{Reason as Refusing, least}
-use Rattle.frames.specs.declared.frame.Frame.{Frame}
-use Rattle.frames.specs.declared.vtype.VType.{VType}
-use Rattle.frames.specs.VerificationType.{VerificationType, type_of, top}
-use Rattle.frames.specs.HeldFrames.{held_locals, held_frame}
-use Rattle.frames.specs.declared.declared_frames.Declared.{Declared}
-use Rattle.frames.specs.DeclaredTables.{declared_view}
-use Rattle.frames.specs.FrameFact.{FrameFact, frame_of}
+use Rattle.frames.specs.FrameFact.{FrameFact}
 use Rattle.frames.specs.FrameAssignable.{frame_answer}
+use Rattle.frames.specs.Slots.{to_reference}
 use Rattle.frames.specs.Differences.{DifferenceFact, is_sought}
 use Rattle.frames.specs.declared.difference.Sought.{Sought}
 use Rattle.frames.specs.declared.difference.Sought.TheVariants.{No, Missing}
 use Rattle.frames.proofs.Differences as differing
 use Rattle.frames.proofs.Differences.{missing_is_some}
-use Rattle.rules.specs.TypingRules.{TypingRule, targets}
-use Rattle.rules.specs.After.{after, with_stack}
-use Rattle.rules.specs.Rules.{conditions}
-use Rattle.rules.specs.Outcomes.{pushed}
-use Rattle.rules.specs.declared.reason.Reason.{Reason as RuleReason}
-use Rattle.rules.specs.declared.reason.Reason.TheVariants.{OutOfMemory}
+use Rattle.type_numbers.specs.Decoding.{type_by}
+use Rattle.type_numbers.proofs.Decoded.{number_read}
+use Rattle.method_frames.specs.NumberedFrames.{NumberedFrames, frame_by, declared_frame}
+use Rattle.method_frames.specs.MapFrames.{frames_by}
+use Rattle.numbered_rules.specs.Held.{held}
+use Rattle.rules.specs.After.{with_stack}
+use Rattle.verify.specs.declared.difference_at.Unlike.{Unlike}
 use Rattle.verify.specs.declared.place_set.PlaceSet.{PlaceSet}
 use Rattle.verify.specs.private.PlaceSets.{has}
 use Rattle.verify.specs.TypeSafety.{Frames, caught_frame}
-use Rattle.verify.specs.Verdict.{declared_at, table_conditions}
-use Rattle.verify.specs.declared.exceptions.Entry.{Entry}
-use Rattle.verify.specs.private.ExceptionTables.{entry_view, AreNumbered}
-use Rattle.verify.specs.Coming.{before, frame_if}
-use Rattle.verify.specs.DifferencesAt.{DifferenceAtFact, sought_difference, placed, from_declared, at_target, at_targets, at_handler, at_handlers, target_difference, first_refused, first_covering}
-use Rattle.verify.specs.private.Unlike.{ArePassed}
+use Rattle.verify.specs.DifferencesAt.{DifferenceAtFact, sought_difference, placed, from_declared, at_target, at_handler, at_handlers}
+use Rattle.verify.specs.private.Unlike.{found_difference, caught_difference, ArePassed}
+use Rattle.verify.specs.declared.pass.exceptions.Entry.{Entry}
+use Rattle.verify.specs.private.pass.Exceptions.{IsEntryBy}
+use Rattle.verify.specs.private.pass.Finding.{IsFound}
+use Rattle.verify.proofs.numbered.Following.{begun_covers}
 
 -- the answer is sought exactly where a place is found
-pub sought_is_some : (s : Sought) (classes : List ClassFact) (f g : FrameFact) → length f.locals ≡ length g.locals
+sought_is_some : (s : Sought) (classes : List ClassFact) (f g : FrameFact) → length f.locals ≡ length g.locals
     → is_sought s (frame_answer classes f g) ≡ is_some (sought_difference s classes f g)
 sought_is_some No classes f g even = differing.no_difference classes f g even
 sought_is_some Missing classes f g even = missing_is_some classes f g even
 
-pub none_there : {A : Type 0} (o : Option A) → is_some o ≡ false → o ≡ None
+none_there : {A : Type 0} (o : Option A) → is_some o ≡ false → o ≡ None
 none_there None e = refl
 none_there (Some x) e = absurd (true≢false e)
 
-pub some_there : {A : Type 0} (o : Option A) → is_some o ≡ true → o ≢ None
+some_there : {A : Type 0} (o : Option A) → is_some o ≡ true → o ≢ None
 some_there o e n = absurd (true≢false (sym (sym (ap is_some n) ∙ e)))
 
 some_placed : (at : ℕ) (o : Option DifferenceFact) → is_some (placed at o) ≡ is_some o
 some_placed at None = refl
 some_placed at (Some d) = refl
 
-module _ (s : Sought) (classes : List ClassFact) (f g : FrameFact) (even : length f.locals ≡ length g.locals) (at : ℕ) where
-  is_there : is_sought s (frame_answer classes f g) ≡ is_some (from_declared s classes f at (Some g))
-  is_there = sought_is_some s classes f g even ∙ sym (some_placed at (sought_difference s classes f g))
-
+module _ (s : Sought) (classes : List ClassFact) (f g : FrameFact) (even : length f.locals ≡ length g.locals) where
   -- where the answer is not sought, there is no difference
-  pub no_difference : is_sought s (frame_answer classes f g) ≡ false → from_declared s classes f at (Some g) ≡ None
-  no_difference fine = none_there (from_declared s classes f at (Some g)) (sym is_there ∙ fine)
+  no_difference : is_sought s (frame_answer classes f g) ≡ false → sought_difference s classes f g ≡ None
+  no_difference fine = none_there (sought_difference s classes f g) (sym (sought_is_some s classes f g even) ∙ fine)
 
   -- where it is, there is one
-  pub a_difference : is_sought s (frame_answer classes f g) ≡ true → from_declared s classes f at (Some g) ≢ None
-  a_difference e = some_there (from_declared s classes f at (Some g)) (sym is_there ∙ e)
+  a_difference : (at : ℕ) → is_sought s (frame_answer classes f g) ≡ true → from_declared s classes f at (Some g) ≢ None
+  a_difference at e = some_there (from_declared s classes f at (Some g)) (some_placed at (sought_difference s classes f g) ∙ sym (sought_is_some s classes f g even) ∙ e)
 
 -- the first of two, where there is one
-pub first_is : {A : Type 0} (a b : Option A) → a ≢ None → option_or a b ≡ a
+first_is : {A : Type 0} (a b : Option A) → a ≢ None → option_or a b ≡ a
 first_is None b n = absurd (n refl)
 first_is (Some x) b n = refl
 
-pub second_is : {A : Type 0} (a b : Option A) → a ≡ None → option_or a b ≡ b
+second_is : {A : Type 0} (a b : Option A) → a ≡ None → option_or a b ≡ b
 second_is a b e = rw e refl
 
-module _ (s : Sought) (classes : List ClassFact) (frames : Frames) (f : FrameFact) (old now : PlaceSet) (place : ℕ)
-    (only : (other : ℕ) → has now other ≡ true → IsTrue (nat_eq other place || has old other)) (passed : ArePassed s classes frames f old) where
-  -- a place is put in, at which the answer is not sought
-  pub passed_on : ((at : ℕ) (g : FrameFact) → slice_get frames place ≡ Some (at, g) → is_sought s (frame_answer classes f g) ≡ false) → ArePassed s classes frames f now
-  passed_on fine other at g h e = by (nat_eq other place) refl (only other h)
+-- ---- a declared frame
+
+module _ (s : Sought) (x : NumberedFrames) where
+  abbrev classes : List ClassFact
+  classes = x.types.classes
+
+  abbrev frames : Frames
+  frames = frames_by x.types x.declared
+
+  abbrev declared : ℕ → FrameFact
+  declared frame = frame_by x.types (declared_frame x frame)
+
+  -- a place is put in, at which there is no difference
+  pub passed_on : (old now : PlaceSet) (frame : ℕ) → ((other : ℕ) → has now other ≡ true → IsTrue (nat_eq other frame || has old other)) → ArePassed s x old
+      → sought_difference s classes (held x) (declared frame) ≡ None → ArePassed s x now
+  passed_on old now frame only passed fine other h within = by (nat_eq other frame) refl (only other h)
     where
-      by : (b : Bool) → nat_eq other place ≡ b → IsTrue (b || has old other) → is_sought s (frame_answer classes f g) ≡ false
-      by true q t = fine at g (ap (slice_get frames) (sym (eqb-true other place q)) ∙ e)
-      by false q t = passed other at g t e
+      by : (b : Bool) → nat_eq other frame ≡ b → IsTrue (b || has old other) → sought_difference s classes (held x) (declared other) ≡ None
+      by true q t = ap (λ k. sought_difference s classes (held x) (declared k)) (eqb-true other frame q) ∙ fine
+      by false q t = passed other t within
 
-  -- it was in before
-  pub passed_again : has old place ≡ true → ArePassed s classes frames f now
-  passed_again h = passed_on (λ at g e. passed place at g h e)
+  -- at a target at which a frame is declared, from which there is no difference
+  pub target_none : (frame : ℕ) (target : ℤ) → IsFound x.types x.declared target frame → sought_difference s classes (held x) (declared frame) ≡ None → at_target s classes frames (held x) target ≡ None
+  target_none frame (pos at) is fine = ap (from_declared s classes (held x) at) is.place.declared ∙ ap (placed at) fine
+  target_none frame (negsuc n) is fine = refl
 
--- the frame at a place is the one that stands there
-pub fine_there : (s : Sought) (classes : List ClassFact) (frames : Frames) (f d : FrameFact) (place there : ℕ) → slice_get frames place ≡ Some (there, d)
-    → is_sought s (frame_answer classes f d) ≡ false → (at : ℕ) (g : FrameFact) → slice_get frames place ≡ Some (at, g) → is_sought s (frame_answer classes f g) ≡ false
-fine_there s classes frames f d place there here fine at g e =
-    let same : g ≡ d = ap (λ (z : ℕ × FrameFact). z.1) (same_pair (at, g) (there, d) (sym e ∙ here)) in
-    ap (λ k. is_sought s (frame_answer classes f k)) same ∙ fine
-  where
-    same_pair : (a b : ℕ × FrameFact) → Some a ≡ Some b → a ≡ b
-    same_pair a b e = cc
+  -- the difference from the frame that is declared at a target
+  pub target_is : (frame : ℕ) (target : ℤ) → IsFound x.types x.declared target frame → at_target s classes frames (held x) target ≡ placed (unsigned_abs target) (sought_difference s classes (held x) (declared frame))
+  target_is frame (pos at) is = ap (from_declared s classes (held x) at) is.place.declared
+  target_is frame (negsuc n) is = let bad : None ≡ Some (declared frame) = is.place.declared in absurd (cc)
 
-module _ (s : Sought) (classes : List ClassFact) (frames : Frames) (f d : FrameFact) (even : length f.locals ≡ length d.locals) where
-  -- at a target at which this frame is declared
-  pub target_none : (target : ℤ) → declared_at frames target ≡ Some d → is_sought s (frame_answer classes f d) ≡ false → at_target s classes frames f target ≡ None
-  target_none (pos at) h fine = ap (from_declared s classes f at) h ∙ no_difference s classes f d even at fine
-  target_none (negsuc n) h fine = refl
+  module _ (frame : ℕ) (even : length (declared_frame x frame).locals ≡ length x.running.locals) where
+    as_long : length (held x).locals ≡ length (declared frame).locals
+    as_long = length-map x.running.locals (type_by x.types) ∙ sym even ∙ sym (length-map (declared_frame x frame).locals (type_by x.types))
 
-  pub target_some : (target : ℤ) → declared_at frames target ≡ Some d → is_sought s (frame_answer classes f d) ≡ true → at_target s classes frames f target ≢ None
-  target_some (pos at) h e = λ none. a_difference s classes f d even at e (sym (ap (from_declared s classes f at) h) ∙ none)
-  target_some (negsuc n) h e = let bad : None ≡ Some d = h in cc
+    -- the answer is not sought
+    pub fine_there : is_sought s (frame_answer classes (held x) (declared frame)) ≡ false → sought_difference s classes (held x) (declared frame) ≡ None
+    fine_there fine = no_difference s classes (held x) (declared frame) as_long fine
 
-module _ (s : Sought) (classes : List ClassFact) (frames : Frames) (at : ℕ) (f d : FrameFact) (e : ExceptionEntry) (even : length f.locals ≡ length d.locals)
-    (covered : covers e at ≡ true) (here : at_offset frames e.handler ≡ Some d) where
-  handler_here : at_handler s classes frames at f e ≡ from_declared s classes (caught_frame e f) e.handler (Some d)
-  handler_here = rw covered (ap (from_declared s classes (caught_frame e f) e.handler) here)
+    pub target_some : (target : ℤ) → IsFound x.types x.declared target frame → is_sought s (frame_answer classes (held x) (declared frame)) ≡ true → at_target s classes frames (held x) target ≢ None
+    target_some (pos at) is e = λ none. a_difference s classes (held x) (declared frame) as_long at e (sym (ap (from_declared s classes (held x) at) is.place.declared) ∙ none)
+    target_some (negsuc n) is e = let bad : None ≡ Some (declared frame) = is.place.declared in cc
 
-  -- at the handler of an entry that covers the instruction
-  pub handler_none : is_sought s (frame_answer classes (caught_frame e f) d) ≡ false → at_handler s classes frames at f e ≡ None
-  handler_none fine = handler_here ∙ no_difference s classes (caught_frame e f) d even e.handler fine
+    -- at the handler of an entry that covers the instruction
+    module _ (at : ℕ) (e : ExceptionEntry) (y : Entry) (is : IsEntryBy x.types e y) (begun : y.from ≤ at) (lasts : at < y.to) (found : IsFound x.types x.declared (pos y.handler) frame) where
+      pub handler_is : at_handler s classes frames at (held x) e ≡ from_declared s classes (caught_frame e (held x)) e.handler (Some (declared frame))
+      handler_is =
+          let covered = begun_covers e at (omega (arith, is.from, begun)) (omega (arith, is.to, lasts)) in
+          rw covered (ap (from_declared s classes (caught_frame e (held x)) e.handler) (ap (at_offset frames) (sym is.handler) ∙ found.place.declared))
 
-  pub handler_some : is_sought s (frame_answer classes (caught_frame e f) d) ≡ true → at_handler s classes frames at f e ≢ None
-  handler_some k = λ none. a_difference s classes (caught_frame e f) d even e.handler k (sym handler_here ∙ none)
+      caught_is : (o : Bool) → is_sought s (frame_answer classes (frame_by x.types (record x.running { stack = y.caught ∷ [] })) (declared frame)) ≡ o
+          → is_sought s (frame_answer classes (caught_frame e (held x)) (declared frame)) ≡ o
+      caught_is o told =
+          sym (ap (λ t. is_sought s (frame_answer classes (with_stack (held x) (t ∷ [])) (declared frame))) (number_read x.types y.caught (to_reference e.caught) is.caught)) ∙ told
+
+      pub handler_none : is_sought s (frame_answer classes (frame_by x.types (record x.running { stack = y.caught ∷ [] })) (declared frame)) ≡ false → at_handler s classes frames at (held x) e ≡ None
+      handler_none fine = handler_is ∙ ap (placed e.handler) (no_difference s classes (caught_frame e (held x)) (declared frame) as_long (caught_is false fine))
+
+      pub handler_some : is_sought s (frame_answer classes (frame_by x.types (record x.running { stack = y.caught ∷ [] })) (declared frame)) ≡ true → at_handler s classes frames at (held x) e ≢ None
+      handler_some k = λ none. a_difference s classes (caught_frame e (held x)) (declared frame) as_long e.handler (caught_is true k) (sym handler_is ∙ none)
 
 -- ---- entries by their places
 
@@ -128,98 +133,37 @@ some_more : {A B : Type 0} (g : A → B) (o : Option A) → o ≢ None → optio
 some_more g None n = absurd (n refl)
 some_more g (Some x) n = λ e. cc
 
-module _ (es : List Entry) (i : ℕ) (d : Entry) (within : i < length es) (numbered : AreNumbered es) where
-  abbrev here : Entry
-  here = slice_index_or es i d
+got_from : (es : List ExceptionEntry) (i : ℕ) (e : ExceptionEntry) (others : List ExceptionEntry) → drop i es ≡ e ∷ others → slice_get es i ≡ Some e
+got_from [] zero e others q = absurd (cc)
+got_from [] (suc i) e others q = absurd (cc)
+got_from (x ∷ es) zero e others q = let same : x ≡ e = cc in ap (λ (y : ExceptionEntry). Some y) same
+got_from (x ∷ es) (suc i) e others q = got_from es i e others q
 
-  next_is : drop i es ≡ here ∷ drop (i + 1) es
-  next_is = drop_more es i d within
+module _ (s : Sought) (x : NumberedFrames) (es : List ExceptionEntry) (i : ℕ) (e : ExceptionEntry) (next : drop i es ≡ e ∷ drop (i + 1) es) where
+  -- the difference at the handler of an entry, with its place
+  pub caught_at : (u : Unlike) (d : Option DifferenceAtFact) → d ≡ found_difference s x (caught_frame e (held x)) (Some u) → option_map (λ y. (i, y)) d ≡ caught_difference s x es (Some (i, u))
+  caught_at u d is =
+      ap (option_map (λ (y : DifferenceAtFact). (i, y))) is
+      ∙ sym (ap (λ o. option_map (λ (y : DifferenceAtFact). (i, y)) (option_and_then (λ z. found_difference s x (caught_frame z (held x)) (Some u)) o)) (got_from es i e (drop (i + 1) es) next))
 
-  place_is : i ≡ here.place
-  place_is = sym (numbered i here (slice_get-get_or es i d within))
+  module _ (at : ℕ) where
+    abbrev all : ℕ → List ExceptionEntry → Option (ℕ × DifferenceAtFact)
+    all place others = at_handlers s x.types.classes (frames_by x.types x.declared) at (held x) place others
 
-  -- the next entry covers the instruction
-  pub covering_at : (at : ℕ) → covers (entry_view here) at ≡ true → first_covering at i (map entry_view (drop i es)) ≡ Some here.place
-  covering_at at c =
-      let first : first_covering at i (entry_view here ∷ map entry_view (drop (i + 1) es)) ≡ Some i = rw c refl in
-      ap (λ xs. first_covering at i (map entry_view xs)) next_is ∙ first ∙ ap (λ (k : ℕ). Some k) place_is
+    abbrev here : Option DifferenceAtFact
+    here = at_handler s x.types.classes (frames_by x.types x.declared) at (held x) e
 
-  -- the next entry is refused
-  pub refused_there : (classes : List ClassFact) (m : Method Act) (frames : Frames) (why : Refusing) → least (table_conditions classes m frames (entry_view here)) ≡ Some why
-      → first_refused classes m frames i (map entry_view (drop i es)) ≡ Some here.place
-  refused_there classes m frames why c =
-      let first : first_refused classes m frames i (entry_view here ∷ map entry_view (drop (i + 1) es)) ≡ Some i = rw c refl in
-      ap (λ xs. first_refused classes m frames i (map entry_view xs)) next_is ∙ first ∙ ap (λ (k : ℕ). Some k) place_is
+    -- there is a difference at the handler of the next entry
+    pub differing_there : here ≢ None → (u : Unlike) → here ≡ found_difference s x (caught_frame e (held x)) (Some u) → all i (drop i es) ≡ caught_difference s x es (Some (i, u))
+    differing_there n u is =
+        ap (all i) next
+        ∙ first_is (option_map (λ d. (i, d)) here) (all (suc i) (drop (i + 1) es)) (some_more (λ d. (i, d)) here n)
+        ∙ caught_at u here is
 
-  -- there is a difference at the handler of the next entry
-  pub differing_there : (s : Sought) (classes : List ClassFact) (frames : Frames) (at : ℕ) (f : FrameFact) → at_handler s classes frames at f (entry_view here) ≢ None
-      → at_handlers s classes frames at f i (map entry_view (drop i es)) ≡ option_map (λ x. (here.place, x)) (at_handler s classes frames at f (entry_view here))
-  differing_there s classes frames at f n =
-      ap (λ xs. at_handlers s classes frames at f i (map entry_view xs)) next_is
-      ∙ first_is (option_map (λ x. (i, x)) (at_handler s classes frames at f (entry_view here))) (at_handlers s classes frames at f (suc i) (map entry_view (drop (i + 1) es)))
-      (some_more (λ x. (i, x)) (at_handler s classes frames at f (entry_view here)) n)
-      ∙ ap (λ (k : ℕ). option_map (λ (x : DifferenceAtFact). (k, x)) (at_handler s classes frames at f (entry_view here))) place_is
-
-  -- there is none
-  pub alike_there : (s : Sought) (classes : List ClassFact) (frames : Frames) (at : ℕ) (f : FrameFact) → at_handler s classes frames at f (entry_view here) ≡ None
-      → at_handlers s classes frames at f i (map entry_view (drop i es)) ≡ at_handlers s classes frames at f (i + 1) (map entry_view (drop (i + 1) es))
-  alike_there s classes frames at f n =
-      let next : suc i ≡ i + 1 = omega arith in
-      let others : List ExceptionEntry = map entry_view (drop (i + 1) es) in
-      ap (λ xs. at_handlers s classes frames at f i (map entry_view xs)) next_is
-      ∙ second_is (option_map (λ x. (i, x)) (at_handler s classes frames at f (entry_view here))) (at_handlers s classes frames at f (suc i) others) (ap (option_map (λ (x : DifferenceAtFact). (i, x))) n)
-      ∙ ap (λ k. at_handlers s classes frames at f k others) next
-
--- the answer where an entry was refused
-pub refused_told : (e : RuleReason) (r : Result (Option ℕ) AllocError) (x : Option ℕ) (place : ℕ) → IfOk r (λ o. (o ≡ Some place) × (e ≢ OutOfMemory)) → (e ≡ OutOfMemory) ⊎ (x ≡ Some place)
-    → IfOk r (λ o. o ≡ x)
-refused_told e (Ok o) x place p (inl m) = absurd (p.1 m)
-refused_told e (Ok o) x place p (inr q) = p.0 ∙ sym q
-refused_told e (Err a) x place p q = tt
-
--- ---- the frame after an instruction
-
-module _ (s : Sought) (classes : List ClassFact) (m : Method Act) (frames : Frames) (at : ℕ) (p : TypingRule) (f : FrameFact) where
-  pub at_targets_is : least (conditions classes m at p f) ≡ None → (now : FrameFact) → now ≡ after m at p f → (ts : List ℤ) → ts ≡ targets at p
-      → at_targets s classes frames now ts ≡ target_difference s classes m frames at p (Some f)
-  at_targets_is none now q ts t =
-      let there : target_difference s classes m frames at p (Some f) ≡ at_targets s classes frames (after m at p f) (targets at p) = rw none refl in
-      ap (λ x. at_targets s classes frames x ts) q ∙ ap (at_targets s classes frames (after m at p f)) t ∙ sym there
-
--- ---- what is caught alone on the stack
-
-pub whole_locals : (locals : List VType) (n : ℕ) → length locals ≡ n → held_locals locals n ≡ map type_of locals
-whole_locals locals n e =
-    let none : n - length locals ≡ 0 = omega (arith, e) in
-    ap (λ k. map type_of locals ++ replicate k top) none ∙ append-nil (map type_of locals)
-
-pub caught_is : (b : Frame) (n : ℕ) → length b.locals.items ≡ n → (t : VerificationType) → pushed (t ∷ []) (held_frame b.locals.items n [] b.flag) ≡ with_stack (frame_of b) (t ∷ [])
-caught_is b n e t =
-    ap (λ (l : List VerificationType). let x : FrameFact = record { locals = l; stack = t ∷ []; flag = b.flag } in x) (whole_locals b.locals.items n e)
-
--- ---- the frame before an instruction has max_locals locals
-
-some_frame : (f g : FrameFact) → Some f ≡ Some g → f ≡ g
-some_frame f g e = cc
-
-pub comes_long : (n : ℕ) (comes : Bool) (f : FrameFact) → (comes ≡ true → length f.locals ≡ n) → IfSome (frame_if comes f) (λ x. length x.locals ≡ n)
-comes_long n true f h = h refl
-comes_long n false f h = tt
-
-pub declared_long : (n : ℕ) (d : Option Declared) → IfSome d (λ x. length (declared_view x).locals ≡ n) → IfSome (option_map declared_view d) (λ x. length x.locals ≡ n)
-declared_long n (Some d) h = h
-declared_long n None h = tt
-
-pub before_long : (n : ℕ) (o : Option (Bor Frame)) (x y : Option FrameFact) → option_map (λ b. frame_of b.now) o ≡ before x y
-    → IfSome x (λ f. length f.locals ≡ n) → IfSome y (λ f. length f.locals ≡ n) → IfSome o (λ b. length b.now.locals.items ≡ n)
-before_long n None x y e h k = tt
-before_long n (Some b) x (Some g) e h k =
-    let same : frame_of b.now ≡ g = some_frame (frame_of b.now) g e in
-    sym (length-map b.now.locals.items type_of) ∙ ap (λ (f : FrameFact). length f.locals) same ∙ k
-before_long n (Some b) (Some f) None e h k =
-    let same : frame_of b.now ≡ f = some_frame (frame_of b.now) f e in
-    sym (length-map b.now.locals.items type_of) ∙ ap (λ (f : FrameFact). length f.locals) same ∙ h
-before_long n (Some b) None None e h k = absurd (no_frame (frame_of b.now) e)
-  where
-    no_frame : (f : FrameFact) → Some f ≡ None → ⊥
-    no_frame f e = cc
+    -- there is none
+    pub alike_there : here ≡ None → all i (drop i es) ≡ all (i + 1) (drop (i + 1) es)
+    alike_there n =
+        let more : suc i ≡ i + 1 = omega arith in
+        ap (all i) next
+        ∙ second_is (option_map (λ d. (i, d)) here) (all (suc i) (drop (i + 1) es)) (ap (option_map (λ (d : DifferenceAtFact). (i, d))) n)
+        ∙ ap (λ k. all k (drop (i + 1) es)) more

@@ -43,6 +43,9 @@ abbrev pub before : Option FrameFact → Option FrameFact → Option FrameFact
 before coming None = coming
 before coming (Some declared) = Some declared
 
+abbrev pub met_before : FramesFact → Option FrameFact
+met_before x = before x.coming x.declared
+
 -- the frames at an instruction with this act and this typing rule, and what is wrong, by the number of the reason
 abbrev pub frames_with : List ClassFact → Method Act → Frames → ℕ → Act → TypingRule → (reason : ℕ) → Option FrameFact
     → Option FrameFact → FramesFact

@@ -77,14 +77,18 @@ module _ (classes : List ClassFact) (m : Method Act) (frames : Frames) (at : ℕ
   handler_if sought before =
       option_map (λ h. handler h.0 h.1) (handler_difference sought classes m frames at before)
 
+  -- a handler, unless the object of a protected member asks for a class, of which nothing is told
+  abbrev pub unknown_aside : FrameFact → Option DetailFact
+  unknown_aside f =
+      if is_class_asked (least (member_conditions classes m act f)) then None else handler_if Missing (Some f)
+
   -- of all that is asked of an instruction in the frame before it: what it takes goes first, then its targets, then the
-  -- object of a protected member, of which nothing is told, and then its handlers
+  -- object of a protected member and its handlers
   abbrev pub unknown_in : FrameFact → Option DetailFact
   unknown_in f =
       if is_class_asked (least (conditions classes m at p f))
       then option_map taken (first_unknown classes m (expected_types p) f)
-      else option_or (target_if Missing (Some f))
-      (if is_class_asked (least (member_conditions classes m act f)) then None else handler_if Missing (Some f))
+      else option_or (target_if Missing (Some f)) (unknown_aside f)
 
   -- the comparison that asks for the missing class: the exception table goes first, and then the frame that comes with
   -- the declared one

@@ -2,13 +2,12 @@
 pub mod AmongSteps
 pub mod Catching
 pub mod EachSteps
-pub mod ExceptionTables
 pub mod FileSteps
 pub mod JudgingSteps
-pub mod Known
 pub mod MetNames
 pub mod PlaceSets
 pub mod PlaySteps
+pub mod Ran
 pub mod SameSummaries
 pub mod Targets
 pub mod TogetherSteps

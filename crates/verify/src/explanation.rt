@@ -1,21 +1,27 @@
 //! The verdicts on the methods of a class, with the frames at the instructions at which they are refused.
-ghost use Rattle.std.specs.Prelude.{◌≡◌, ◌<◌, ◌≤◌, length, IfOk, IfErr};
+ghost use Rattle.std.specs.Prelude.{◌≡◌, ◌<◌, ◌≤◌, ℕ, List, length, IfOk, IfErr, MatchOption};
 ghost use Rattle.classfile.specs.CodeMethods.{judged_class};
+ghost use Rattle.classfile.specs.Methods.{JudgedClass};
 ghost use Rattle.classfile.specs.Views.{class_view};
 ghost use Rattle.verify.specs.declared.verdict.VerifyFault.TheVariants.{OutOfMemory};
+ghost use Rattle.hierarchy.specs.Class.{ClassFact};
 ghost use Rattle.hierarchy.specs.Rules.{IsHierarchy};
 ghost use Rattle.rules.specs.Reasons.{reason_number};
 ghost use Rattle.verify.specs.Listed.{IsListed};
-ghost use Rattle.verify.specs.Coming.{AreFramed, AreFramesOf, IsFramedIf, frames_view};
+ghost use Rattle.verify.specs.Coming.{FramesFact, no_frames, AreFramed, AreFramesOf, IsFramedIf, frames_view};
 ghost use Rattle.verify.specs.Explaining.{AreFramedIf, IsExplained};
+ghost use Rattle.verify.specs.private.pass.ClassTypes.{AreClassTypes};
 
 use crate::frames_at::{FramesAt, MOST_KEPT, Refusal, frames_of};
+use crate::pass::ClassTypes;
 use crate::report::{MethodVerdict, Report, report_listed};
 use crate::verdict::{Verdict, VerifyFault};
 use classfile::Formed;
 use hierarchy::Classes;
+use method_frames::MethodFrames;
 use rules::ClassConstants;
 use std::alloc::Global;
+use type_numbers::TypeNumbers;
 
 /// The verdicts on the methods of a class, and the frames at the instructions at which they are refused.
 #[derive(Debug, Drop)]
@@ -27,62 +33,56 @@ pub struct Explained<'a> {
     pub frames: Vec<FramesAt<'a>>,
 }
 
-/// The frames at the offset at which the method of a number is refused.
+/// Where a method is refused, by the verdict on it, if its frames are told.
+fn refusal_by<'a>(verdict: &Verdict<'a>, told: bool) -> Option<Refusal<'a>>
+    ensures { (classes : List ClassFact) (c : JudgedClass) (number : ℕ) (x : FramesFact)
+        → MatchOption result (x ≡ no_frames → IsFramedIf told classes c number verdict.now x)
+        (λ r. AreFramesOf classes c number (reason_number r.reason) r.at x
+        → IsFramedIf told classes c number verdict.now x) }
+{
+    if !told {
+        return None;
+    }
+    match *verdict {
+        Verdict::Verified | Verdict::NoCode => None,
+        Verdict::Refused { at, reason } => Some(Refusal { at, reason }),
+    }
+}
+
+/// The frames of the method of a number, where it is refused so; none where it is not. The types and the constants are
+/// those of the class.
 fn frames_at<'a, C: Classes>(
     alloc: Global,
     formed: &Formed<'_, 'a>,
     number: usize,
+    refusal: Option<Refusal<'a>>,
+    types: &ClassTypes,
     constants: &mut ClassConstants<'_, '_, 'a, C>,
-    refusal: Refusal<'a>,
-    classes: &C,
+    frames: &mut MethodFrames<'_, '_, 'a, C>,
 ) -> Result<FramesAt<'a>, VerifyFault>
     requires constants { constants.old.members
-        ≡ record { class = formed.now.class.now; classes = C.content classes.now } }
+        ≡ record { class = formed.now.class.now; classes = frames.old.types.classes } }
+    requires types { AreClassTypes frames.old.types (class_view formed.now.class.now) types.now }
     requires within { number < length formed.now.class.now.methods.items }
     ensures same { constants.new.members ≡ constants.old.members }
-    ensures found { IfOk result (λ x. AreFramesOf (C.content classes.now) (judged_class formed.now) number
-        (reason_number refusal.entry.reason) refusal.entry.at (frames_view x)) }
+    ensures types { frames.new.types ≡ frames.old.types }
+    ensures found { IfOk result (λ x. MatchOption refusal.entry (frames_view x ≡ no_frames)
+        (λ r. AreFramesOf frames.old.types.classes (judged_class formed.now) number (reason_number r.reason) r.at
+        (frames_view x))) }
     ensures memory { IfErr result (λ e. e ≡ OutOfMemory) }
 {
     formed.class();
+    let Some(refusal) = refusal else {
+        return Ok(FramesAt::none());
+    };
     match formed.method(number) {
         None => Ok(FramesAt::none()),
-        Some(method) => frames_of(alloc, method, constants, refusal, classes),
-    }
-}
-
-/// The frames of the method of a number, on which this is the verdict, if its frames are kept.
-fn frames_on<'a, C: Classes>(
-    alloc: Global,
-    formed: &Formed<'_, 'a>,
-    number: usize,
-    verdict: &Verdict<'a>,
-    told: bool,
-    constants: &mut ClassConstants<'_, '_, 'a, C>,
-    classes: &C,
-) -> Result<FramesAt<'a>, VerifyFault>
-    requires constants { constants.old.members
-        ≡ record { class = formed.now.class.now; classes = C.content classes.now } }
-    requires within { number < length formed.now.class.now.methods.items }
-    ensures same { constants.new.members ≡ constants.old.members }
-    ensures found { IfOk result (λ x. IsFramedIf told (C.content classes.now)
-        (judged_class formed.now) number verdict.now (frames_view x)) }
-    ensures memory { IfErr result (λ e. e ≡ OutOfMemory) }
-{
-    if !told {
-        return Ok(FramesAt::none());
-    }
-    match *verdict {
-        Verdict::Verified | Verdict::NoCode => Ok(FramesAt::none()),
-        Verdict::Refused { at, reason } => {
-            let refusal = Refusal { at, reason };
-            frames_at(alloc, formed, number, constants, refusal, classes)
-        }
+        Some(method) => frames_of(alloc, method, refusal, types, constants, frames),
     }
 }
 
 /// The frames of each method of a class, on which these are the verdicts, as long as those in front have fewer types
-/// than [`MOST_KEPT`]. One table of constants serves all of them.
+/// than [`MOST_KEPT`]. The numbers of the class's types, the frames and one table of constants serve all of them.
 fn frames_of_all<'a, C: Classes>(
     alloc: Global,
     formed: &Formed<'_, 'a>,
@@ -94,24 +94,28 @@ fn frames_of_all<'a, C: Classes>(
         (judged_class formed.now) verdicts.now xs.items) }
     ensures memory { IfErr result (λ e. e ≡ OutOfMemory) }
 {
-    let mut frames = Vec::new(alloc);
+    let mut all = Vec::new(alloc);
     let class = formed.class();
+    let mut numbers = TypeNumbers::new(alloc, classes);
+    let types = ClassTypes::new(alloc, class, &mut numbers)?;
     let mut constants = ClassConstants::new(alloc, class, classes);
+    let mut frames = MethodFrames::new(alloc, &numbers, 0, 0, false)?;
     let mut left = MOST_KEPT;
     for number in 0..verdicts.len() {
-        let met = frames_on(
+        let refusal = refusal_by(&verdicts[number].verdict, left > 0);
+        let met = frames_at(
             alloc,
             formed,
             number,
-            &verdicts[number].verdict,
-            left > 0,
+            refusal,
+            &types,
             &mut constants,
-            classes,
+            &mut frames,
         )?;
         left = met.taken_off(left);
-        frames.push(met)?;
+        all.push(met)?;
     }
-    Ok(frames)
+    Ok(all)
 }
 
 /// The frames of each method of a class, on which these are the verdicts, where they are asked for.

@@ -1,8 +1,8 @@
 //! The frames at the instruction at which a method is refused: the one that comes to it, and the one that is declared
 //! there; and what is wrong.
-ghost use Rattle.std.specs.Prelude.{◌≡◌, ◌≢◌, ◌⊎◌, ◌<◌, ◌≤◌, ◌-◌, ℕ, true, false, Ok, Some, List, length, map, option_map, IfOk, IfErr, IfSome};
+ghost use Rattle.std.specs.Prelude.{◌≡◌, ◌≢◌, ◌<◌, ◌≤◌, ◌-◌, ℕ, false, Ok, Some, List, length, map, option_map, slice_index, IfOk, IfErr};
+ghost use Rattle.std.specs.Option.{option_map_or};
 ghost use Rattle.layout.specs.declared.limits.TheConstants.{MAX_CODE_BYTES};
-ghost use Rattle.names.specs.Types.{type_of};
 ghost use Rattle.classfile.specs.CodeMethods.{class_of};
 ghost use Rattle.classfile.specs.MethodParts.{code_at};
 ghost use Rattle.classfile.specs.Views.{class_view, code_view};
@@ -10,32 +10,40 @@ ghost use Rattle.classfile.specs.WellFormed.{WellFormed};
 ghost use Rattle.insn.specs.declared.fault.CodeFault.TheVariants as codes;
 ghost use Rattle.insn.specs.Instructions.{Instruction};
 ghost use Rattle.insn.specs.Code.{SpellsCode};
-ghost use Rattle.insn.specs.Offsets.{IsStart};
+ghost use Rattle.insn.specs.Offsets.{at_offset};
 ghost use Rattle.insn.specs.Views.{act_view};
 ghost use Rattle.frames.specs.FrameFact.{frame_of};
-ghost use Rattle.frames.specs.DeclaredTables.{declared_view, frames_in};
-ghost use Rattle.frames.specs.MarkedCode.{code_in};
+ghost use Rattle.frames.specs.VerificationType.{type_of};
+ghost use Rattle.type_numbers.specs.Numbers.{IsGiven};
+ghost use Rattle.type_numbers.specs.Decoding.{types_by};
+ghost use Rattle.method_frames.specs.MapFrames.{frames_by};
+ghost use Rattle.numbered_rules.specs.Held.{held, IsRunning};
+ghost use Rattle.numbered_rules.specs.Running.{AreRuleNumbers};
 ghost use Rattle.rules.specs.Bodies.{method_view};
-ghost use Rattle.rules.specs.Held.{held};
 ghost use Rattle.rules.specs.declared.reason.Reason.TheVariants as reasons;
+ghost use Rattle.rules.specs.Reasons.{reason_number};
 ghost use Rattle.rules.specs.Table.{typing_rule};
 ghost use Rattle.verify.specs.declared.verdict.VerifyFault.TheVariants.{OutOfMemory};
-ghost use Rattle.verify.specs.Verdict.{frames_declared};
-ghost use Rattle.rules.specs.Reasons.{reason_number};
-ghost use Rattle.verify.specs.Coming.{no_frames, frames_with, before, frame_if, going, met, frames_at, frames_view, frame_size, frames_size, AreFramesOf};
+ghost use Rattle.verify.specs.InitialFrames.{initial_types};
+ghost use Rattle.verify.specs.Coming.{no_frames, frames_with, before, met_before, frame_if, going, met, without_map, frames_at, frames_view, frame_size, frames_size, AreFramesOf};
+ghost use Rattle.verify.specs.private.pass.ClassTypes.{AreClassTypes};
 
-use crate::body::Body;
 use crate::detail::{Detail, RefusedAt, detail_at};
-use crate::initial::{begins_uninitialized, initial_locals, initial_types, types_of};
-use crate::stack_maps::{copy_of, declared_frames, map_detail};
+use crate::pass::ClassTypes;
+use crate::pass::declared::declared_in;
+use crate::pass::members::facts_of;
+use crate::pass::method::{declare_map, units};
+use crate::stack_maps::map_detail;
 use crate::verdict::VerifyFault;
 use classfile::CodeMethod;
-use frames::{CodeStarts, Declared, DeclaredFrames, Frame};
+use frames::{CodeStarts, Frame, VType};
 use hierarchy::Classes;
 use insn::{Act, CodeFault, Instructions};
-use names::FieldType;
-use rules::{ClassConstants, Reason, Working, goes_on, run};
+use method_frames::MethodFrames;
+use numbered_rules::{Body, run};
+use rules::{ClassConstants, Reason, goes_on};
 use std::alloc::{AllocError, Global};
+use type_numbers::TypeNumbers;
 
 /// The frames of a method are kept where those of the methods before it have fewer types than this, so that all of them
 /// take memory that is linear in the class.
@@ -74,6 +82,17 @@ impl<'a> FramesAt<'a> {
         }
     }
 
+    /// The frame before the instruction, if there is one: the one that is declared there, and otherwise the one that
+    /// comes.
+    pub fn before(&self) -> Option<&Frame<'a>>
+        ensures { option_map (λ f. frame_of f.now) result ≡ met_before (frames_view self.now) }
+    {
+        if let Some(declared) = &self.declared {
+            return Some(declared);
+        }
+        self.coming.as_ref()
+    }
+
     /// A number less the types of these frames; 0 where they have more.
     pub fn taken_off(&self, left: usize) -> usize
         ensures { result ≡ left - frames_size (frames_view self.now) }
@@ -94,31 +113,6 @@ fn less(left: usize, frame: &Option<Frame<'_>>) -> usize
     }
 }
 
-/// The offset of the declared frame at a place, where it is in front of an offset; otherwise the one that is handed in.
-fn in_front(frames: &DeclaredFrames<'_>, place: usize, at: usize, otherwise: usize) -> usize
-    ensures { (result ≡ otherwise) ⊎ ((result < at) × IsStart (frames_in frames.now) result) }
-{
-    let Some((here, _)) = frames.get(place) else {
-        return otherwise;
-    };
-    let here = here as usize;
-    if here < at {
-        return here;
-    }
-    otherwise
-}
-
-/// The offset of the last frame that is declared in front of an offset; 0 where none is.
-fn last_before(frames: &DeclaredFrames<'_>, at: usize) -> usize
-    ensures { (result ≡ 0) ⊎ ((result < at) × IsStart (frames_in frames.now) result) }
-{
-    let mut last = 0;
-    for place in 0..frames.len() {
-        last = in_front(frames, place, at, last);
-    }
-    last
-}
-
 /// No frame goes on from an instruction that was refused for this reason; 1 where memory ran out.
 fn stopped(reason: Reason<'_>) -> Result<bool, VerifyFault>
     ensures found { IfOk result (λ goes. (goes ≡ false) × (reason.entry ≢ reasons.OutOfMemory)) }
@@ -130,252 +124,259 @@ fn stopped(reason: Reason<'_>) -> Result<bool, VerifyFault>
     }
 }
 
-/// Runs an instruction with this act on the frame before it, which becomes the frame after. Returns whether the frame
-/// goes on to the next instruction; where it does not, nothing is said of the frame.
+/// Runs an instruction with this act on the running frame. Returns whether the frame goes on to the next instruction;
+/// where it does not, nothing is said of the frame.
 fn go_on<'a, C: Classes>(
-    body: &Body<'_, 'a, C>,
+    body: &Body<'_, 'a>,
     at: u16,
-    act: Act<'a>,
+    act: &Act<'a>,
     constants: &mut ClassConstants<'_, '_, 'a, C>,
-    frame: &mut Working<'a>,
+    frames: &mut MethodFrames<'_, '_, 'a, C>,
 ) -> Result<bool, VerifyFault>
     requires constants { constants.old.members
-        ≡ record { class = body.now.method.now.class.now; classes = C.content body.now.classes.now } }
-    requires locals { length (held frame.old).locals ≡ body.now.method.now.code.now.max_locals }
+        ≡ record { class = body.now.method.now.class.now; classes = frames.old.types.classes } }
+    requires locals { length frames.old.running.locals ≡ body.now.method.now.code.now.max_locals }
+    requires numbers { AreRuleNumbers frames.old.types (method_view body.now.method.now) body.now.numbers }
     ensures same { constants.new.members ≡ constants.old.members }
     ensures goes { let m = method_view body.now.method.now in
-        IfOk result (λ goes. frame_if goes (held frame.new)
-        ≡ going (C.content body.now.classes.now) m at (typing_rule m (act_view act.entry))
-        (Some (held frame.old))) }
-    ensures locals { IfOk result (λ goes. goes ≡ true
-        → length (held frame.new).locals ≡ body.now.method.now.code.now.max_locals) }
+        IfOk result (λ goes. frame_if goes (held frames.new)
+        ≡ going frames.old.types.classes m at (typing_rule m (act_view act.now)) (Some (held frames.old))) }
+    ensures rest { IsRunning frames.old frames.new }
     ensures memory { IfErr result (λ e. e ≡ OutOfMemory) }
 {
-    let goes = goes_on(&act);
-    let named = constants.named(body.method, &act)?;
-    match run(
-        body.method,
-        body.starts,
-        at,
-        act,
-        &named,
-        frame,
-        body.classes,
-    ) {
-        Ok(()) => Ok(goes),
+    let facts = facts_of(body.method, act, constants)?;
+    match run(body, at, act, facts, frames) {
+        Ok(()) => Ok(goes_on(act)),
         Err(reason) => stopped(reason),
     }
+}
+
+/// Makes the running frame the one before an instruction: the one that is declared there, and otherwise the one that
+/// comes. Returns whether there is one.
+fn take_before<'n, C: Classes>(
+    at: u16,
+    comes: bool,
+    frames: &mut MethodFrames<'_, '_, 'n, C>,
+) -> Result<bool, AllocError>
+    ensures found { let x = frames.old in IfOk result (λ is. frame_if is (held frames.new)
+        ≡ before (frame_if comes (held x)) (at_offset (frames_by x.types x.declared) at)) }
+    ensures rest { IsRunning frames.old frames.new }
+{
+    let Some(frame) = declared_in(at, frames) else {
+        return Ok(comes);
+    };
+    frames.take(frame)?;
+    Ok(true)
 }
 
 /// Goes from an instruction to the next: the frame that is declared there, or otherwise the one that comes, becomes the
 /// frame after. Returns whether the frame goes on.
 fn step<'a, C: Classes>(
-    body: &Body<'_, 'a, C>,
+    body: &Body<'_, 'a>,
     at: u16,
-    act: Act<'a>,
-    declared: Option<Declared<'_, 'a>>,
+    act: &Act<'a>,
     comes: bool,
     constants: &mut ClassConstants<'_, '_, 'a, C>,
-    frame: &mut Working<'a>,
+    frames: &mut MethodFrames<'_, '_, 'a, C>,
 ) -> Result<bool, VerifyFault>
     requires constants { constants.old.members
-        ≡ record { class = body.now.method.now.class.now; classes = C.content body.now.classes.now } }
-    requires declared { IfSome declared
-        (λ d. length (declared_view d).locals ≡ body.now.method.now.code.now.max_locals) }
-    requires locals { comes ≡ true → length (held frame.old).locals ≡ body.now.method.now.code.now.max_locals }
+        ≡ record { class = body.now.method.now.class.now; classes = frames.old.types.classes } }
+    requires locals { length frames.old.running.locals ≡ body.now.method.now.code.now.max_locals }
+    requires numbers { AreRuleNumbers frames.old.types (method_view body.now.method.now) body.now.numbers }
     ensures same { constants.new.members ≡ constants.old.members }
-    ensures goes { let m = method_view body.now.method.now in let coming = frame_if comes (held frame.old) in
-        IfOk result (λ goes. frame_if goes (held frame.new)
-        ≡ going (C.content body.now.classes.now) m at (typing_rule m (act_view act.entry))
-        (before coming (option_map declared_view declared.entry))) }
-    ensures locals { IfOk result (λ goes. goes ≡ true
-        → length (held frame.new).locals ≡ body.now.method.now.code.now.max_locals) }
+    ensures goes { let m = method_view body.now.method.now in let x = frames.old in
+        IfOk result (λ goes. frame_if goes (held frames.new)
+        ≡ going x.types.classes m at (typing_rule m (act_view act.now))
+        (before (frame_if comes (held x)) (at_offset (frames_by x.types x.declared) at))) }
+    ensures rest { IsRunning frames.old frames.new }
     ensures memory { IfErr result (λ e. e ≡ OutOfMemory) }
 {
-    match declared {
-        Some(declared) => {
-            *frame = Working::new(body.alloc, body.method.code.max_locals, false);
-            frame.take_on(&declared, None)?;
-        }
-        None => {
-            if !comes {
-                return Ok(false);
-            }
-        }
+    if !take_before(at, comes, frames)? {
+        return Ok(false);
     }
-    go_on(body, at, act, constants, frame)
+    go_on(body, at, act, constants, frames)
 }
 
-/// The frame before an instruction, if there is one: the one that is declared there, and otherwise the one that comes.
-fn before<'r, 'a>(
-    coming: &'r Option<Frame<'a>>,
-    declared: &'r Option<Frame<'a>>,
-) -> Option<&'r Frame<'a>>
-    ensures { option_map (λ f. frame_of f.now) result
-        ≡ before (option_map frame_of coming.now) (option_map frame_of declared.now) }
-{
-    match declared {
-        Some(declared) => Some(declared),
-        None => match coming {
-            Some(coming) => Some(coming),
-            None => None,
-        },
-    }
-}
-
-/// The frame that comes, if it does.
-fn frame_that<'a>(comes: bool, frame: Working<'a>) -> Result<Option<Frame<'a>>, AllocError>
-    ensures { IfOk result (λ o. option_map frame_of o ≡ frame_if comes (held frame.entry)) }
+/// The running frame, if it comes.
+fn frame_that<'a, C: Classes>(
+    alloc: Global,
+    comes: bool,
+    frames: &MethodFrames<'_, '_, 'a, C>,
+) -> Result<Option<Frame<'a>>, AllocError>
+    ensures { IfOk result (λ o. option_map frame_of o ≡ frame_if comes (held frames.now)) }
 {
     if !comes {
         return Ok(None);
     }
-    Ok(Some(frame.into_frame()?))
+    Ok(Some(frames.frame(alloc)?))
 }
 
-/// A copy of a declared frame, if there is one.
-fn copy_if<'a, C: Classes>(
-    body: &Body<'_, 'a, C>,
-    declared: Option<Declared<'_, 'a>>,
+/// The frame that is declared at an offset, if one is, which becomes the running one.
+fn take_declared<'a, C: Classes>(
+    alloc: Global,
+    at: u16,
+    frames: &mut MethodFrames<'_, '_, 'a, C>,
 ) -> Result<Option<Frame<'a>>, AllocError>
-    requires { IfSome declared
-        (λ d. length (declared_view d).locals ≡ body.now.method.now.code.now.max_locals) }
-    ensures { IfOk result (λ o. option_map frame_of o ≡ option_map declared_view declared.entry) }
+    ensures found { let x = frames.old in
+        IfOk result (λ o. option_map frame_of o ≡ at_offset (frames_by x.types x.declared) at) }
+    ensures running { IfOk result (λ o. held frames.new ≡ option_map_or frame_of o (held frames.old)) }
+    ensures rest { IsRunning frames.old frames.new }
 {
-    match declared {
-        Some(declared) => {
-            let copy = copy_of(body.alloc, &declared, body.method.code.max_locals)?;
-            Ok(Some(copy))
-        }
-        None => Ok(None),
-    }
+    let Some(frame) = declared_in(at, frames) else {
+        return Ok(None);
+    };
+    frames.take(frame)?;
+    Ok(Some(frames.frame(alloc)?))
 }
 
 /// The frame that comes to the instruction at which a method is refused, if it does, the one that is declared there,
 /// and what is wrong.
 fn meet<'a, C: Classes>(
-    body: &Body<'_, 'a, C>,
+    alloc: Global,
+    body: &Body<'_, 'a>,
     refused: RefusedAt<'a>,
     comes: bool,
-    frame: Working<'a>,
-    declared: Option<Declared<'_, 'a>>,
     constants: &mut ClassConstants<'_, '_, 'a, C>,
+    frames: &mut MethodFrames<'_, '_, 'a, C>,
 ) -> Result<FramesAt<'a>, AllocError>
     requires constants { constants.old.members
-        ≡ record { class = body.now.method.now.class.now; classes = C.content body.now.classes.now } }
-    requires declared { IfSome declared
-        (λ d. length (declared_view d).locals ≡ body.now.method.now.code.now.max_locals) }
-    requires locals { comes ≡ true → length (held frame).locals ≡ body.now.method.now.code.now.max_locals }
+        ≡ record { class = body.now.method.now.class.now; classes = frames.old.types.classes } }
+    requires locals { length frames.old.running.locals ≡ body.now.method.now.code.now.max_locals }
+    requires numbers { AreRuleNumbers frames.old.types (method_view body.now.method.now) body.now.numbers }
     ensures same { constants.new.members ≡ constants.old.members }
     ensures found { let m = method_view body.now.method.now in let a = act_view refused.entry.act in
-        IfOk result (λ x. frames_view x
-        ≡ frames_with (C.content body.now.classes.now) m (frames_in body.now.frames.now) refused.entry.at
-        a (typing_rule m a) (reason_number refused.entry.reason) (frame_if comes (held frame.entry))
-        (option_map declared_view declared.entry)) }
+        let x = frames.old in let declared = frames_by x.types x.declared in IfOk result (λ met. frames_view met
+        ≡ frames_with x.types.classes m declared refused.entry.at a (typing_rule m a)
+        (reason_number refused.entry.reason) (frame_if comes (held x)) (at_offset declared refused.entry.at)) }
+    ensures rest { IsRunning frames.old frames.new }
 {
-    let coming = frame_that(comes, frame)?;
-    let there = copy_if(body, declared)?;
-    let before = before(&coming, &there);
-    let detail = detail_at(body, refused, &coming, &there, before, constants)?;
-    Ok(FramesAt {
+    let coming = frame_that(alloc, comes, frames)?;
+    let declared = take_declared(alloc, refused.at, frames)?;
+    let mut met = FramesAt {
         coming,
-        declared: there,
-        detail,
-    })
+        declared,
+        detail: None,
+    };
+    met.detail = detail_at(alloc, body, refused, &met, constants, frames)?;
+    Ok(met)
 }
 
-/// The frames at the offset at which code is refused, by one walk over it with the frame with which the method begins.
-/// No instruction is run in front of the last frame that is declared in front of the offset, since what comes to that
-/// one does not matter.
+/// The frames at the offset at which code is refused, by one walk over it with the running frame, the one with which the
+/// method begins.
 fn walk<'a, C: Classes>(
-    body: &Body<'_, 'a, C>,
-    constants: &mut ClassConstants<'_, '_, 'a, C>,
-    first: Working<'a>,
+    alloc: Global,
+    body: &Body<'_, 'a>,
     refusal: Refusal<'a>,
+    constants: &mut ClassConstants<'_, '_, 'a, C>,
+    frames: &mut MethodFrames<'_, '_, 'a, C>,
 ) -> Result<FramesAt<'a>, VerifyFault>
     requires constants { constants.old.members
-        ≡ record { class = body.now.method.now.class.now; classes = C.content body.now.classes.now } }
-    requires locals { length (held first).locals ≡ body.now.method.now.code.now.max_locals }
-    requires frames { frames_declared (method_view body.now.method.now) ≡ Ok (frames_in body.now.frames.now) }
+        ≡ record { class = body.now.method.now.class.now; classes = frames.old.types.classes } }
+    requires locals { length frames.old.running.locals ≡ body.now.method.now.code.now.max_locals }
+    requires numbers { AreRuleNumbers frames.old.types (method_view body.now.method.now) body.now.numbers }
     requires spelled { (xs : List (ℕ × Instruction)) × SpellsCode 0 body.now.method.now.code.now.code.now xs }
     requires few { length body.now.method.now.code.now.code.now ≤ MAX_CODE_BYTES }
     ensures same { constants.new.members ≡ constants.old.members }
-    ensures found { let m = method_view body.now.method.now in
-        IfOk result (λ x. frames_view x
-        ≡ met typing_rule (C.content body.now.classes.now) m (frames_in body.now.frames.now)
-        (reason_number refusal.entry.reason) m.code (Some (held first.entry)) refusal.entry.at) }
+    ensures found { let m = method_view body.now.method.now in let x = frames.old in
+        IfOk result (λ found. frames_view found
+        ≡ met typing_rule x.types.classes m (frames_by x.types x.declared) (reason_number refusal.entry.reason)
+        m.code (Some (held x)) refusal.entry.at) }
+    ensures rest { IsRunning frames.old frames.new }
     ensures memory { IfErr result (λ e. e ≡ OutOfMemory) }
 {
-    let at = refusal.at;
-    let last = last_before(body.frames, at);
-    let mut frame = first;
     let mut code = Instructions::new(body.method.code.code);
     let mut comes = true;
     while !code.is_at_end() {
-        let here = code.at() as u16;
+        let at = code.at() as u16;
         let act = code.take_act();
-        let declared = body.frames.find(u32::from(here));
-        if usize::from(here) == at {
+        if usize::from(at) == refusal.at {
             let reason = refusal.reason;
-            let refused = RefusedAt {
-                at: here,
-                act,
-                reason,
-            };
-            return Ok(meet(body, refused, comes, frame, declared, constants)?);
+            let refused = RefusedAt { at, act, reason };
+            return Ok(meet(alloc, body, refused, comes, constants, frames)?);
         }
-        if usize::from(here) >= last {
-            comes = step(body, here, act, declared, comes, constants, &mut frame)?;
-        }
+        comes = step(body, at, &act, comes, constants, frames)?;
     }
     Ok(FramesAt::none())
 }
 
-/// The frames at the offset at which a method is refused, whose parameters are of these types.
-fn frames_in_body<'a, C: Classes>(
+/// The types of these numbers.
+fn types_of<'a, C: Classes>(
     alloc: Global,
-    method: &CodeMethod<'_, 'a>,
-    starts: &CodeStarts<'_>,
-    parameters: &[FieldType<'a>],
+    numbers: &[u32],
+    types: &TypeNumbers<'_, 'a, C>,
+) -> Result<Vec<VType<'a>>, AllocError>
+    requires { (i : ℕ) → i < length numbers.now → IsGiven types.now (slice_index numbers.now i) }
+    ensures { IfOk result (λ v. map type_of v.items ≡ types_by types.now numbers.now) }
+{
+    let mut found = Vec::with_capacity(alloc, numbers.len())?;
+    for i in 0..numbers.len() {
+        found.push(types.vtype(numbers[i]))?;
+    }
+    Ok(found)
+}
+
+/// No frames where the stack map is refused: what is wrong is in the map.
+fn without_map<'a, C: Classes>(
+    alloc: Global,
+    body: &Body<'_, 'a>,
+    initial: &[u32],
     constants: &mut ClassConstants<'_, '_, 'a, C>,
-    refusal: Refusal<'a>,
-    classes: &C,
+    types: &TypeNumbers<'_, 'a, C>,
 ) -> Result<FramesAt<'a>, VerifyFault>
-    requires constants { constants.old.members
-        ≡ record { class = method.now.class.now; classes = C.content classes.now } }
-    requires starts { code_in starts.now ≡ method.now.code.now.code.now }
-    requires parameters { (method_view method.now).type.params ≡ map type_of parameters.now }
-    requires spelled { (xs : List (ℕ × Instruction)) × SpellsCode 0 method.now.code.now.code.now xs }
-    requires few { length method.now.code.now.code.now ≤ MAX_CODE_BYTES }
+    requires constants { constants.old.members.class ≡ body.now.method.now.class.now }
+    requires initial { types_by types.now initial.now ≡ initial_types (method_view body.now.method.now) }
+    requires given { (i : ℕ) → i < length initial.now → IsGiven types.now (slice_index initial.now i) }
     ensures same { constants.new.members ≡ constants.old.members }
-    ensures found { IfOk result (λ x. frames_view x
-        ≡ frames_at typing_rule (C.content classes.now) (method_view method.now) (reason_number refusal.entry.reason)
-        refusal.entry.at) }
+    ensures found { IfOk result (λ met. frames_view met ≡ without_map (method_view body.now.method.now)) }
     ensures memory { IfErr result (λ e. e ≡ OutOfMemory) }
 {
-    let max_locals = method.code.max_locals;
-    let types = initial_types(alloc, method, parameters)?;
-    let Some(locals) = initial_locals(alloc, &types, max_locals)? else {
-        return Ok(FramesAt::none());
-    };
-    let declared = declared_frames(alloc, method, &types, starts, &mut constants.types)?;
-    let Ok(frames) = declared else {
-        return Ok(FramesAt {
-            coming: None,
-            declared: None,
-            detail: map_detail(alloc, method, &types, starts, &mut constants.types)?,
-        });
-    };
-    let mut frame = Working::new(alloc, 0, false);
-    frame.start(&locals, max_locals, begins_uninitialized(method))?;
-    let body = Body {
+    let types = types_of(alloc, initial, types)?;
+    let detail = map_detail(
         alloc,
-        method,
-        starts,
-        frames: &frames,
-        classes,
-    };
-    walk(&body, constants, frame, refusal)
+        body.method,
+        &types,
+        body.starts,
+        &mut constants.types,
+    )?;
+    Ok(FramesAt {
+        coming: None,
+        declared: None,
+        detail,
+    })
+}
+
+/// The frames at the offset at which a method is refused, whose receiver and parameters have types of these numbers.
+fn frames_in_body<'a, C: Classes>(
+    alloc: Global,
+    body: &Body<'_, 'a>,
+    initial: &[u32],
+    refusal: Refusal<'a>,
+    constants: &mut ClassConstants<'_, '_, 'a, C>,
+    frames: &mut MethodFrames<'_, '_, 'a, C>,
+) -> Result<FramesAt<'a>, VerifyFault>
+    requires constants { constants.old.members
+        ≡ record { class = body.now.method.now.class.now; classes = frames.old.types.classes } }
+    requires numbers { AreRuleNumbers frames.old.types (method_view body.now.method.now) body.now.numbers }
+    requires initial { types_by frames.old.types initial.now ≡ initial_types (method_view body.now.method.now) }
+    requires given { (i : ℕ) → i < length initial.now → IsGiven frames.old.types (slice_index initial.now i) }
+    requires spelled { (xs : List (ℕ × Instruction)) × SpellsCode 0 body.now.method.now.code.now.code.now xs }
+    requires few { length body.now.method.now.code.now.code.now ≤ MAX_CODE_BYTES }
+    ensures same { constants.new.members ≡ constants.old.members }
+    ensures types { frames.new.types ≡ frames.old.types }
+    ensures found { IfOk result (λ met. frames_view met
+        ≡ frames_at typing_rule frames.old.types.classes (method_view body.now.method.now)
+        (reason_number refusal.entry.reason) refusal.entry.at) }
+    ensures memory { IfErr result (λ e. e ≡ OutOfMemory) }
+{
+    let code = body.method.code;
+    frames.restart(code.max_locals, code.max_stack, false);
+    if units(initial) > usize::from(code.max_locals) {
+        return Ok(FramesAt::none());
+    }
+    match declare_map(alloc, body, initial, frames)? {
+        Ok(()) => walk(alloc, body, refusal, constants, frames),
+        Err(_) => without_map(alloc, body, initial, constants, frames.types()),
+    }
 }
 
 /// No frame where bytes are no code; 1 where memory ran out.
@@ -391,19 +392,24 @@ fn without_code<'a>(fault: CodeFault) -> Result<FramesAt<'a>, VerifyFault>
 
 /// The frames at the offset at which a method with code is refused (JVMS 4.10.1.6), and what is wrong; none where its
 /// bytes are no instructions, where its receiver and its parameters do not fit into max_locals, or where no instruction
-/// begins at the offset. Where its stack map is refused, there are no frames, and what is wrong is in the map.
+/// begins at the offset. Where its stack map is refused, there are no frames, and what is wrong is in the map. The types
+/// and the constants are those of its class.
 pub fn frames_of<'a, C: Classes>(
     alloc: Global,
     method: CodeMethod<'_, 'a>,
-    constants: &mut ClassConstants<'_, '_, 'a, C>,
     refusal: Refusal<'a>,
-    classes: &C,
+    types: &ClassTypes,
+    constants: &mut ClassConstants<'_, '_, 'a, C>,
+    frames: &mut MethodFrames<'_, '_, 'a, C>,
 ) -> Result<FramesAt<'a>, VerifyFault>
-    requires constants { constants.old.members ≡ record { class = method.class.now; classes = C.content classes.now } }
+    requires constants { constants.old.members
+        ≡ record { class = method.class.now; classes = frames.old.types.classes } }
+    requires types { AreClassTypes frames.old.types (class_view method.class.now) types.now }
     requires formed { WellFormed (class_view method.class.now) }
     requires coded { code_at (class_view method.class.now) method.number ≡ Some (code_view method.code.now) }
     ensures same { constants.new.members ≡ constants.old.members }
-    ensures found { IfOk result (λ x. AreFramesOf (C.content classes.now) (class_of method.entry) method.entry.number
+    ensures types { frames.new.types ≡ frames.old.types }
+    ensures found { IfOk result (λ x. AreFramesOf frames.old.types.classes (class_of method.entry) method.entry.number
         (reason_number refusal.entry.reason) refusal.entry.at (frames_view x)) }
     ensures memory { IfErr result (λ e. e ≡ OutOfMemory) }
 {
@@ -411,14 +417,11 @@ pub fn frames_of<'a, C: Classes>(
         Ok(starts) => starts,
         Err(fault) => return without_code(fault),
     };
-    let types = types_of(alloc, &method)?;
-    frames_in_body(
-        alloc,
-        &method,
-        &starts,
-        &types.params,
-        constants,
-        refusal,
-        classes,
-    )
+    let initial = types.initial(alloc, &method)?;
+    let body = Body {
+        method: &method,
+        starts: &starts,
+        numbers: types.rule_numbers(&method),
+    };
+    frames_in_body(alloc, &body, &initial, refusal, constants, frames)
 }

@@ -9,8 +9,9 @@
 //! - `play`: the reports on classes whose methods may call each other; `met_names`: the names of the classes before
 //!   one.
 //! - `explanation`: a report, with the frames at the instructions at which methods are refused; `frames_at`: these
-//!   frames; `detail`: what is wrong there, by the reason; `difference_at`: how a frame that leads to a target or a
-//!   handler differs from the one that is declared there.
+//!   frames, by one walk once more over the code; `detail`: what is wrong there, by the reason; `difference_at`: how a
+//!   frame that leads to a target or a handler differs from the one that is declared there; `exceptions`: the entry of
+//!   the exception table that is at fault; `stack_maps`: the entry of the stack map for which it is refused.
 //!
 //! Files:
 //!
@@ -22,16 +23,8 @@
 //! The pass over a method's code:
 //!
 //! - `pass`: one pass, against the verdict in specs/Verdict.antt, on frames whose types are numbers.
-//! - `flow`: reasons that an answer and the end of the code give; `place_set`: sets of declared frames.
-//!
-//! The frames at an instruction, once more and by their types, for an explanation:
-//!
-//! - `body`: a method's code, its instructions, its declared frames, and the classes that it may name.
-//! - `initial`: the frame with which a method begins; `stack_maps`: the frames that a stack map declares.
-//! - `exceptions`: the exception table, and the first of its entries that is refused or that covers an instruction.
-//! - `branching`: the frame that is declared at a target; `catching`: the frame that comes to an exception handler.
-//! - `known_facts`, `local_facts`: facts about a frame, so that it is not compared with each declared frame slot by
-//!   slot.
+//! - `flow`: reasons that an answer and the end of the code give; `initial`: whether a method begins with its own object
+//!   uninitialized; `place_set`: sets of declared frames.
 //!
 //! Theorems:
 //!
@@ -41,9 +34,6 @@
 //! - `verified_walk`: walks of the machine through verified methods.
 #![tactic(auto)]
 
-mod body;
-mod branching;
-mod catching;
 mod classes_in_play;
 mod detail;
 mod difference_at;
@@ -57,10 +47,8 @@ mod gathering;
 mod initial;
 mod judgements;
 mod known_classes;
-mod known_facts;
 mod laws;
 mod listing;
-mod local_facts;
 mod met_names;
 mod method;
 mod pass;

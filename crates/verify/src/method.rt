@@ -1,22 +1,10 @@
 //! The verdict on a method.
-ghost use Rattle.std.specs.Prelude.{◌≡◌, ◌<◌, ◌≤◌, ℕ, List, map, length, Some, Ok, IfOk, IfErr};
-ghost use Rattle.layout.specs.declared.limits.TheConstants.{MAX_CODE_BYTES};
-ghost use Rattle.names.specs.Types.{type_of, method_of};
+ghost use Rattle.std.specs.Prelude.{◌≡◌, ◌<◌, List, length, Some, Ok};
 ghost use Rattle.classfile.specs.MethodParts.{code_at};
-ghost use Rattle.classfile.specs.CodeMethods.{judged_class, class_of, types_of};
+ghost use Rattle.classfile.specs.CodeMethods.{judged_class, class_of};
 ghost use Rattle.classfile.specs.Views.{class_view, code_view};
 ghost use Rattle.classfile.specs.WellFormed.{WellFormed};
-ghost use Rattle.insn.specs.Instructions.{Instruction};
-ghost use Rattle.insn.specs.Code.{SpellsCode};
-ghost use Rattle.rules.specs.Bodies.{method_view};
-ghost use Rattle.rules.specs.Held.{held};
-ghost use Rattle.rules.specs.Table.{typing_rule};
-ghost use Rattle.frames.specs.DeclaredTables.{frames_in};
-ghost use Rattle.frames.specs.MarkedCode.{code_in};
-ghost use Rattle.verify.specs.declared.verdict.VerifyFault.TheVariants.{OutOfMemory};
-ghost use Rattle.verify.specs.InitialFrames.{initial_frame};
-ghost use Rattle.verify.specs.Verdict.{with_frames, verdict};
-ghost use Rattle.verify.specs.private.JudgingSteps.{Gives};
+ghost use Rattle.verify.specs.Verdict.{verdict};
 ghost use Rattle.verify.specs.Listed.{IsListed};
 ghost use Rattle.verify.specs.private.pass.ClassTypes.{AreClassTypes};
 ghost use Rattle.verify.specs.Answers.{AnswersCode, Answers, VerifiesTypeSafe, VerifiedIsSafe};

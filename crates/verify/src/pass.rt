@@ -16,13 +16,13 @@
 
 mod class_numbers;
 mod class_types;
-mod declared;
+pub mod declared;
 mod entering;
-mod exceptions;
+pub mod exceptions;
 mod handlers;
 mod judging;
-mod members;
-mod method;
+pub mod members;
+pub mod method;
 mod passing;
 mod representatives;
 mod targets;

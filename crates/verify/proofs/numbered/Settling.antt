@@ -4,7 +4,7 @@ use Rattle.std.specs.Prelude.{slice_index}
 use Rattle.std.specs.Bool.{beq}
 use Rattle.std.proofs.lemmas.Bool.{cases_lt}
 use Rattle.classfile.specs.Methods.{ExceptionEntry, covers}
-use Rattle.hierarchy.specs.Answer.{yes}
+use Rattle.hierarchy.specs.Answer.{Outcome, yes, no, missing}
 use Rattle.insn.specs.Offsets.{at_offset}
 use Rattle.frames.specs.Assignable.{type_answer}
 use Rattle.frames.specs.FrameFact.{FrameFact}
@@ -20,7 +20,6 @@ use Rattle.verify.specs.TypeSafety.{caught_frame}
 use Rattle.verify.specs.Verdict.{handler_conditions, one_handler, is_covered}
 use Rattle.verify.specs.private.Catching.{answer_at}
 use Rattle.verify.proofs.Caught.{none_against}
-use Rattle.frames.proofs.Sharing.{both_left, both_right}
 use Rattle.verify.specs.declared.pass.handlers.Handler.{Handler}
 use Rattle.verify.specs.declared.pass.handlers.Handlers.{Handlers}
 use Rattle.verify.specs.declared.pass.representatives.Representatives.{Representatives}
@@ -28,6 +27,22 @@ use Rattle.verify.specs.private.pass.Finding.{frame_in}
 use Rattle.verify.specs.private.pass.Following.{IsHandler, IsTaken, Comes, IsOpen, IsSettled, AreBegunTaken, Follows, AreAhead, kept_frame}
 use Rattle.verify.specs.private.pass.Representatives.{TakesLocal, TakesChanges, AreRepresentatives}
 use Rattle.verify.proofs.numbered.Starting.{has_handler, covering_open, same_one}
+
+-- ---- two answers that are yes
+
+both_left : (a b : Outcome) → both a b ≡ yes → a ≡ yes
+both_left yes b e = refl
+both_left no b e = e
+both_left (missing name) yes e = e
+both_left (missing name) no e = cc
+both_left (missing name) (missing _) e = e
+
+both_right : (a b : Outcome) → both a b ≡ yes → b ≡ yes
+both_right yes b e = e
+both_right no b e = cc
+both_right (missing name) yes e = refl
+both_right (missing name) no e = e
+both_right (missing name) (missing _) e = cc
 
 -- ---- locals of which those that changed may stand where they are wanted
 

@@ -1,10 +1,8 @@
 -- The verdict on a method, step by step.
-use Rattle.std.proofs.Common.{◌≡◌, ℕ, Bool, true, false, nat_lt, List, [], length, Option, Some, None, Ok, Err, refl, sym, ◌∙◌, ap, subst}
-use Rattle.std.specs.Prelude.{MatchOption}
+use Rattle.std.proofs.Common.{◌≡◌, ℕ, true, false, nat_lt, List, [], length, Option, Some, None, Ok, Err, refl, ap}
 use Rattle.classfile.specs.Methods.{Method}
 use Rattle.hierarchy.specs.Class.{ClassFact}
 use Rattle.insn.specs.Meanings.{Act}
-use Rattle.frames.specs.VerificationType.{VerificationType}
 use Rattle.frames.specs.Slots.{in_locals}
 use Rattle.frames.specs.Conditions.{reason, with_fault}
 use Rattle.rules.specs.ReasonNumbers.{bad_stack_map}
@@ -29,16 +27,3 @@ module _ (m : Method Act) where
       pub map_told : (why : MapRefusal) → frames_declared m ≡ Err why
           → told_of (verdict typing_rule classes m) ≡ Some (0, with_fault bad_stack_map (map_fault_number why))
       map_told why d = let e : verdict typing_rule classes m ≡ map_refused why = rw wide (ap (with_frames typing_rule classes m) d) in ap told_of e
-
-  -- whether the locals have room for the types with which the method begins
-  pub room_as : (types : List VerificationType) → types ≡ initial_types m → (b : Bool) → nat_lt m.max_locals (length (in_locals types)) ≡ b
-      → nat_lt m.max_locals (length (in_locals (initial_types m))) ≡ b
-  room_as types same b e = ap (λ (ts : List VerificationType). nat_lt m.max_locals (length (in_locals ts))) (sym same) ∙ e
-
-pub when_none : {X : Type 0} (A : Type 0) (B : X → Type 0) (o : Option X) → o ≡ None → MatchOption o A B → A
-when_none A B None e h = h
-when_none A B (Some x) e h = cc
-
-pub when_some : {X : Type 0} (A : Type 0) (B : X → Type 0) (o : Option X) (x : X) → o ≡ Some x → MatchOption o A B → B x
-when_some A B None x e h = cc
-when_some A B (Some y) x e h = let same : y ≡ x = cc in subst B same h

@@ -8,8 +8,6 @@ use Rattle.insn.specs.Faults.{code_fault_number}
 use Rattle.insn.specs.Meanings.{Act}
 use Rattle.frames.specs.Conditions.{Conditions, reason}
 use Rattle.frames.specs.FrameFact.{FrameFact}
-use Rattle.frames.specs.declared.declared_frames.DeclaredFrames.{DeclaredFrames}
-use Rattle.frames.specs.DeclaredTables.{frames_in}
 use Rattle.rules.specs.declared.reason.Reason.{Reason}
 use Rattle.rules.specs.declared.reason.Reason.TheVariants.{OutOfMemory, BadCode}
 use Rattle.rules.specs.Reasons.{reason_view}
@@ -22,7 +20,7 @@ use Rattle.verify.specs.declared.verdict.Verdict.TheVariants.{Verified, NoCode, 
 use Rattle.verify.specs.declared.verdict.VerifyFault.{VerifyFault}
 use Rattle.verify.specs.declared.verdict.VerifyFault.TheVariants as faults
 use Rattle.verify.specs.Verdict as verdicts
-use Rattle.verify.specs.Verdict.{verified, MapRefusal, map_fault_number, told_of, entry, entered, before_conditions, is_covered}
+use Rattle.verify.specs.Verdict.{verified, told_of, entry, entered, before_conditions, is_covered}
 use Rattle.verify.specs.TypeSafety.{Frames}
 use Rattle.verify.specs.Answers.{place_of}
 
@@ -34,11 +32,6 @@ pub record Enters (classes : List ClassFact) (falls : Bool) (f : FrameFact) (dec
   pub outcome : MatchResult r
       (λ _. (entry classes falls f declared ≡ None) × (now ≡ entered f declared))
       (λ e. (e ≡ OutOfMemory) ⊎ (entry classes falls f declared ≡ Some (reason_view e)))
-
--- the frames that a stack map declares, or the number of the fault for which it is refused
-abbrev pub TellsFrames : Result Frames MapRefusal → Result DeclaredFrames ℕ → Type 0
-TellsFrames answer (Ok t) = answer ≡ Ok (frames_in t)
-TellsFrames answer (Err number) = (why : MapRefusal) × (answer ≡ Err why) × (number ≡ map_fault_number why)
 
 -- 79 there, with the fault's number; or memory ran out
 pub record RefusesCode (fault : CodeFault) (r : Result Verdict VerifyFault) : Type 0 where

@@ -1,34 +1,33 @@
--- A declared frame for which the answer for a frame is one that is sought.
-use Rattle.std.specs.Prelude.{◌≡◌, ℕ, true, false, List, slice_get, Option, Some, None, option_map}
-use Rattle.hierarchy.specs.Class.{ClassFact}
+-- A declared frame for which the answer for the running frame is one that is sought.
+use Rattle.std.specs.Prelude.{◌≡◌, ◌<◌, ℕ, true, List, length, slice_get, Option, Some, None, option_map}
+use Rattle.std.specs.Option.{option_and_then}
+use Rattle.classfile.specs.Methods.{ExceptionEntry}
 use Rattle.frames.specs.FrameFact.{FrameFact}
-use Rattle.frames.specs.FrameAssignable.{frame_answer}
-use Rattle.frames.specs.DeclaredTables.{declared_view}
-use Rattle.frames.specs.Differences.{is_sought}
 use Rattle.frames.specs.declared.difference.Sought.{Sought}
-use Rattle.frames.specs.declared.declared_frames.Declared.{Declared}
+use Rattle.method_frames.specs.NumberedFrames.{NumberedFrames, frame_by, declared_frame}
+use Rattle.numbered_rules.specs.Held.{held}
+use Rattle.verify.specs.declared.difference_at.Unlike.{Unlike}
 use Rattle.verify.specs.declared.place_set.PlaceSet.{PlaceSet}
 use Rattle.verify.specs.private.PlaceSets.{has}
-use Rattle.verify.specs.declared.exceptions.Entry.{Entry}
-use Rattle.verify.specs.private.ExceptionTables.{entry_view}
-use Rattle.verify.specs.TypeSafety.{Frames, caught_frame}
-use Rattle.verify.specs.DifferencesAt.{DifferenceAtFact, from_declared}
+use Rattle.verify.specs.TypeSafety.{caught_frame}
+use Rattle.verify.specs.DifferencesAt.{DifferenceAtFact, sought_difference, from_declared}
 
--- the difference from a declared frame that was found, with its offset
-abbrev pub found_difference : Sought → List ClassFact → FrameFact → Option (ℕ × Declared) → Option DifferenceAtFact
-found_difference sought classes f None = None
-found_difference sought classes f (Some x) = from_declared sought classes f x.0 (Some (declared_view x.1))
+-- the difference of a frame from a declared one that was found, with its offset
+abbrev pub found_difference : Sought → NumberedFrames → FrameFact → Option Unlike → Option DifferenceAtFact
+found_difference sought x f None = None
+found_difference sought x f (Some u) =
+    from_declared sought x.types.classes f u.at (Some (frame_by x.types (declared_frame x u.frame)))
 
--- the difference from the frame of the handler of an entry that was found
-abbrev pub caught_difference : Sought → List ClassFact → FrameFact → Option (Entry × Declared)
+-- the difference from the frame of the handler of an entry that was found, with the place of the entry
+abbrev pub caught_difference : Sought → NumberedFrames → List ExceptionEntry → Option (ℕ × Unlike)
     → Option (ℕ × DifferenceAtFact)
-caught_difference sought classes f None = None
-caught_difference sought classes f (Some x) =
-    option_map (λ d. (x.0.place, d))
-    (from_declared sought classes (caught_frame (entry_view x.0) f) x.0.handler (Some (declared_view x.1)))
+caught_difference sought x es None = None
+caught_difference sought x es (Some u) =
+    option_map (λ d. (u.0, d)) (option_and_then (λ e. found_difference sought x (caught_frame e (held x)) (Some u.1))
+    (slice_get es u.0))
 
--- for none of the frames that were seen the answer is sought
-abbrev pub ArePassed : Sought → List ClassFact → Frames → FrameFact → PlaceSet → Type 0
-ArePassed sought classes frames f seen =
-    (place at : ℕ) (g : FrameFact) → has seen place ≡ true → slice_get frames place ≡ Some (at, g)
-    → is_sought sought (frame_answer classes f g) ≡ false
+-- the running frame has no difference that is sought from those that were seen
+abbrev pub ArePassed : Sought → NumberedFrames → PlaceSet → Type 0
+ArePassed sought x seen =
+    (frame : ℕ) → has seen frame ≡ true → frame < length x.declared
+    → sought_difference sought x.types.classes (held x) (frame_by x.types (declared_frame x frame)) ≡ None

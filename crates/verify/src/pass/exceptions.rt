@@ -145,7 +145,7 @@ fn throwable_answer<'n, C: Classes>(
 
 /// The place of the frame that is declared at an entry's handler. The entry is refused 72 where it is wrong: by its
 /// places, or since what it catches is not assignable to Throwable; 77 by that comparison.
-fn judge_entry<'n, C: Classes>(
+pub fn judge_entry<'n, C: Classes>(
     entry: &Entry,
     body: &Body<'_, '_>,
     frames: &MethodFrames<'_, '_, 'n, C>,

@@ -46,7 +46,7 @@ fn width(number: u32) -> usize
 }
 
 /// How many units types take, by their numbers.
-fn units(numbers: &[u32]) -> usize
+pub fn units(numbers: &[u32]) -> usize
     ensures { (s : Numbering) → result ≡ units_of (types_by s numbers.now) }
 {
     let mut units = 0;
@@ -101,7 +101,7 @@ fn fault_number(fault: ReadFault) -> Result<u8, VerifyFault>
 /// one with which the method begins; or tells the number of the fault for which the map is refused. The only other
 /// refusal is 1, where memory runs out.
 #[inline(never)]
-fn declare_map<'a, C: Classes>(
+pub fn declare_map<'a, C: Classes>(
     alloc: Global,
     body: &Body<'_, 'a>,
     initial: &[u32],

@@ -7,7 +7,6 @@ use Rattle.frames.proofs.walking.write_locals.Given as goal
 abbrev pub invariant-loop-link : goal.invariant-loop-link
 invariant-loop-link l = record {
   high : IsOn l.chains.links.items l.fn.top l.at;
-  floor : IsOn l.chains.links.items l.at l.fn.floor;
   written : (limit : ℕ) → AreTopFrom (units_of (types_at l.chains.links.items l.fn.top)) limit (local l.fn.locals) → AreWritten l.chains.links.items l.fn.top l.at limit (local l.fn.locals) (local l.locals);
 }
 

@@ -1,8 +1,9 @@
-use Rattle.std.proofs.Common.{◌≡◌, map, drop}
+use Rattle.std.proofs.Common.{◌≡◌, List, drop}
+use Rattle.classfile.specs.Methods.{ExceptionEntry}
+use Rattle.type_numbers.specs.Numbers.{Numbering}
 use Rattle.verify.specs.DifferencesAt.{first_covering}
-use Rattle.verify.specs.private.ExceptionTables.{entry_view}
+use Rattle.verify.specs.private.pass.Exceptions.{AreEntriesBy}
 use Rattle.verify.proofs.exceptions.first_covering.Given as goal
 
-abbrev pub invariant-loop-entry : goal.invariant-loop-entry
-invariant-loop-entry l =
-    first_covering l.at 0 (map entry_view l.entries) ≡ first_covering l.at l.entry-index (map entry_view (drop l.entry-index l.entries))
+abbrev pub invariant-loop-place : goal.invariant-loop-place
+invariant-loop-place l = (s : Numbering) (es : List ExceptionEntry) → AreEntriesBy s es l.entries → first_covering l.at 0 es ≡ first_covering l.at l.place (drop l.place es)

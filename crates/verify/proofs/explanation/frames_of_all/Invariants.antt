@@ -9,9 +9,11 @@ use Rattle.verify.specs.Coming.{IsFramedIf, size_before, frames_view}
 use Rattle.verify.proofs.explanation.frames_of_all.Given as goal
 
 abbrev pub invariant-loop-number : goal.invariant-loop-number
-invariant-loop-number g l =
-    (l.constants.members ≡ record { class = l.formed.class.now; classes = g.C.Classes.content l.classes })
-    × (length l.frames.items ≡ l.number)
-    × ((n : ℕ) (r : MethodVerdict) (x : FramesAt) → slice_get l.verdicts n ≡ Some r → slice_get l.frames.items n ≡ Some x
-    → IsFramedIf (nat_lt (size_before l.frames.items n) MOST_KEPT) (g.C.Classes.content l.classes) (judged_class l.formed) n r.verdict (frames_view x))
-    × (l.left ≡ MOST_KEPT - size_before l.frames.items (length l.frames.items))
+invariant-loop-number g l = record {
+  members : l.constants.members ≡ record { class = l.formed.class.now; classes = g.C.Classes.content l.classes };
+  types : l.frames.types ≡ l.initial.frames.types;
+  count : length l.all.items ≡ l.number;
+  each : (n : ℕ) (r : MethodVerdict) (x : FramesAt) → slice_get l.verdicts n ≡ Some r → slice_get l.all.items n ≡ Some x
+      → IsFramedIf (nat_lt (size_before l.all.items n) MOST_KEPT) (g.C.Classes.content l.classes) (judged_class l.formed) n r.verdict (frames_view x);
+  left : l.left ≡ MOST_KEPT - size_before l.all.items (length l.all.items);
+}

@@ -1,40 +1,68 @@
-use Rattle.std.proofs.Common.{◌≡◌, ◌∙◌, length, false, Ok, ap, subst, map}
+use Rattle.std.proofs.Common.{◌≡◌, ◌∙◌, true, false, nat_lt, length, refl, sym, ap, subst, get_or, arith}
 use Rattle.std.specs.Prelude.{IfOk}
-use Rattle.frames.specs.FrameFact.{FrameFact}
-use Rattle.frames.specs.VerificationType.{type_of}
-use Rattle.frames.specs.DeclaredTables.{frames_in}
-use Rattle.frames.specs.Slots.{in_locals}
+use Rattle.std.proofs.lemmas.Bool.Decides.{nat_tests}
+use Rattle.frames.specs.Slots.{in_locals, units_of}
+use Rattle.type_numbers.specs.Numbers.{Numbering, IsGiven}
+use Rattle.type_numbers.specs.Decoding.{types_by}
+use Rattle.method_frames.specs.MapFrames.{frames_by}
+use Rattle.method_frames.specs.NumberedFrames.{NumberedFrames}
+use Rattle.method_frames.proofs.LayingOut.{units_are}
+use Rattle.numbered_rules.specs.Held.{held}
 use Rattle.rules.specs.Bodies.{method_view}
 use Rattle.rules.specs.Reasons.{reason_number}
-use Rattle.rules.specs.Held.{held}
-use Rattle.verify.specs.InitialFrames.{initial_types, initial_frame}
-use Rattle.verify.specs.Verdict.{frames_declared}
-use Rattle.verify.specs.private.JudgingSteps.{TellsFrames}
-use Rattle.verify.specs.Coming.{FramesFact, frames_view}
-use Rattle.verify.proofs.verdicts.Judged.{room_as, when_some}
-use Rattle.verify.proofs.Meeting.{started, started_length, frames_are}
+use Rattle.rules.specs.Table.{typing_rule}
+use Rattle.verify.specs.InitialFrames.{initial_types}
+use Rattle.verify.specs.Coming.{FramesFact, no_frames, frames_view, frames_at}
+use Rattle.verify.specs.private.pass.Maps.{DeclaresMap}
+use Rattle.verify.proofs.Meeting.{frames_are, map_is}
 use Rattle.verify.proofs.frames_at.frames_in_body.Goals as goal
 
-pub walk-requires-clause-locals : goal.walk-requires-clause-locals
-walk-requires-clause-locals g c =
-    let m = method_view c.args.method.now in
-    let types = map type_of c.deref.result.now in
-    let some = when_some _ _ c.in_ok-locals.field-0 c.in-Some.locals c.in-Some.is c.in_ok-locals.ensures in
-    let same : types ≡ initial_types m = ap (map type_of) c.deref.ensures.value ∙ c.in_ok-types.ensures in
-    let wide = room_as m types same false some.0 in
-    let locals : map type_of c.deref-3.result.now ≡ in_locals (initial_types m) = ap (map type_of) c.deref-3.ensures.value ∙ some.1 ∙ ap in_locals same in
-    let begins : held c.start.new.self ≡ initial_frame m = c.in_ok-start.ensures ∙ started m c.deref-3.result.now c.begins_uninitialized.result locals c.begins_uninitialized.ensures in
-    ap (λ (f : FrameFact). length f.locals) begins ∙ started_length m wide
+pub returns-then-units-from-clause-found : goal.returns-then-units-from-clause-found
+returns-then-units-from-clause-found g c =
+    let x = c.args.frames.now in
+    let m = method_view c.args.body.now.method.now in
+    let long : c.units.result ≡ length (in_locals (initial_types m)) = c.units.ensures x.types ∙ ap units_of c.requires.initial ∙ units_are (initial_types m) in
+    let narrow : nat_lt m.max_locals (length (in_locals (initial_types m))) ≡ true = grind (arith, nat_tests, long, c.from.ensures, c.if-units-from.true) in
+    c.none.ensures ∙ sym (let all : frames_at typing_rule x.types.classes m (reason_number c.args.refusal.reason) c.args.refusal.at ≡ no_frames = rw narrow refl in all)
 
-pub returns-clause-found : goal.returns-clause-found
-returns-clause-found g c =
-    let classes = g.C.Classes.content c.args.classes.now in
-    let m = method_view c.args.method.now in
-    let types = map type_of c.deref.result.now in
-    let some = when_some _ _ c.in_ok-locals.field-0 c.in-Some.locals c.in-Some.is c.in_ok-locals.ensures in
-    let same : types ≡ initial_types m = ap (map type_of) c.deref.ensures.value ∙ c.in_ok-types.ensures in
-    let wide = room_as m types same false some.0 in
-    let locals : map type_of c.deref-3.result.now ≡ in_locals (initial_types m) = ap (map type_of) c.deref-3.ensures.value ∙ some.1 ∙ ap in_locals same in
-    let begins : held c.start.new.self ≡ initial_frame m = c.in_ok-start.ensures ∙ started m c.deref-3.result.now c.begins_uninitialized.result locals c.begins_uninitialized.ensures in
-    let told : frames_declared m ≡ Ok (frames_in c.in-Ok.frames) = subst (TellsFrames (frames_declared m)) c.in-Ok.is c.in_ok-declared.ensures.told in
-    subst (λ (z : FramesFact). IfOk c.walk.result (λ x. frames_view x ≡ z)) (frames_are classes m (frames_in c.in-Ok.frames) (reason_number c.args.refusal.reason) c.args.refusal.at wide told (held c.start.new.self) begins) c.walk.ensures.found
+pub declare_map-requires-clause-initial : goal.declare_map-requires-clause-initial
+declare_map-requires-clause-initial g c =
+    let x = c.args.frames.now in
+    let same = ap (λ (z : NumberedFrames). z.types) c.restart.ensures in
+    let long = c.units.ensures x.types ∙ ap units_of c.requires.initial in
+    record {
+      types = ap (λ s. types_by s c.args.initial.now) same ∙ c.requires.initial;
+      given = λ i lt. subst (λ s. IsGiven s (get_or c.args.initial.now i 0)) (sym same) (c.requires.given i lt);
+      fits = omega (arith, long, c.from.ensures, c.if-units-from.false);
+    }
+
+pub without_map-requires-clause-given : goal.without_map-requires-clause-given
+without_map-requires-clause-given g c = λ i lt.
+    let same = c.types.ensures ∙ ap (λ (z : NumberedFrames). z.types) c.in_ok-declare_map.ensures.rest.others ∙ ap (λ (z : NumberedFrames). z.types) c.restart.ensures in
+    subst (λ s. IsGiven s (get_or c.args.initial.now i 0)) (sym same) (c.requires.given i lt)
+
+pub returns-in-Ok-clause-found : goal.returns-in-Ok-clause-found
+returns-in-Ok-clause-found g c =
+    let x = c.args.frames.now in
+    let y = c.declare_map.new.frames in
+    let m = method_view c.args.body.now.method.now in
+    let n = reason_number c.args.refusal.reason in
+    let at = c.args.refusal.at in
+    let same : y.types ≡ x.types = ap (λ (z : NumberedFrames). z.types) c.in_ok-declare_map.ensures.rest.others ∙ ap (λ (z : NumberedFrames). z.types) c.restart.ensures in
+    let long : c.units.result ≡ length (in_locals (initial_types m)) = c.units.ensures x.types ∙ ap units_of c.requires.initial ∙ units_are (initial_types m) in
+    let wide : nat_lt m.max_locals (length (in_locals (initial_types m))) ≡ false = grind (arith, nat_tests, long, c.from.ensures, c.if-units-from.false) in
+    let told = subst (DeclaresMap y m) c.in-Ok.is c.in_ok-declare_map.ensures.told in
+    let all = frames_are y.types.classes m (frames_by y.types y.declared) n at wide told.0 (held y) told.1 ∙ ap (λ (s : Numbering). frames_at typing_rule s.classes m n at) same in
+    subst (λ (z : FramesFact). IfOk c.walk.result (λ k. frames_view k ≡ z)) all c.walk.ensures.found
+
+pub returns-in-Err-clause-found : goal.returns-in-Err-clause-found
+returns-in-Err-clause-found g c =
+    let x = c.args.frames.now in
+    let y = c.declare_map.new.frames in
+    let m = method_view c.args.body.now.method.now in
+    let n = reason_number c.args.refusal.reason in
+    let at = c.args.refusal.at in
+    let long : c.units.result ≡ length (in_locals (initial_types m)) = c.units.ensures x.types ∙ ap units_of c.requires.initial ∙ units_are (initial_types m) in
+    let wide : nat_lt m.max_locals (length (in_locals (initial_types m))) ≡ false = grind (arith, nat_tests, long, c.from.ensures, c.if-units-from.false) in
+    let told = subst (DeclaresMap y m) c.in-Err.is c.in_ok-declare_map.ensures.told in
+    subst (λ (z : FramesFact). IfOk c.without_map.result (λ k. frames_view k ≡ z)) (map_is x.types.classes m told.0 n at wide told.1) c.without_map.ensures.found

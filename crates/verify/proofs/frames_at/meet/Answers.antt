@@ -1,16 +1,51 @@
-use Rattle.std.proofs.Common.{Option, option_map, ◌∙◌, ap}
-use Rattle.frames.specs.FrameFact.{FrameFact, frame_of}
-use Rattle.frames.specs.DeclaredTables.{declared_view}
-use Rattle.rules.specs.Held.{held}
-use Rattle.verify.specs.Coming.{before, frame_if}
-use Rattle.verify.proofs.Unlike.{comes_long, declared_long, before_long}
+use Rattle.std.proofs.Common.{◌∙◌, sym, ap, subst}
+use Rattle.std.specs.Option.{option_map}
+use Rattle.insn.specs.Offsets.{at_offset}
+use Rattle.insn.specs.Views.{act_view}
+use Rattle.frames.specs.FrameFact.{frame_of}
+use Rattle.type_numbers.specs.Numbers.{Numbering}
+use Rattle.method_frames.specs.MapFrames.{frames_by}
+use Rattle.numbered_rules.specs.Held.{held}
+use Rattle.numbered_rules.specs.Running.{AreRuleNumbers}
+use Rattle.numbered_rules.proofs.Taking.{running_then, types_stay}
+use Rattle.rules.specs.Bodies.{method_view}
+use Rattle.rules.specs.Guards.{Surroundings}
+use Rattle.rules.specs.Reasons.{reason_number}
+use Rattle.rules.specs.Table.{typing_rule}
+use Rattle.verify.specs.Coming.{frame_if}
+use Rattle.verify.specs.Details.{detail_of}
+use Rattle.verify.proofs.Meeting.{before_is, met_is}
 use Rattle.verify.proofs.frames_at.meet.Goals as goal
 
+pub detail_at-requires-clause-constants : goal.detail_at-requires-clause-constants
+detail_at-requires-clause-constants g c =
+    let same = types_stay c.args.frames.now c.take_declared.new.frames c.take_declared.ensures.rest in
+    c.requires.constants ∙ ap (λ (s : Numbering). let all : Surroundings = record { class = c.args.body.now.method.now.class.now; classes = s.classes } in all) (sym same)
+
 pub detail_at-requires-clause-locals : goal.detail_at-requires-clause-locals
-detail_at-requires-clause-locals g c =
-    let n = c.args.body.now.method.now.code.now.max_locals in
-    let coming = frame_if c.args.comes (held c.args.frame) in
-    let declared = option_map declared_view c.args.declared in
-    let is = c.before-before.ensures ∙ ap (λ (x : Option FrameFact). before x (option_map frame_of c.in_ok-there.there)) c.in_ok-coming.ensures
-    ∙ ap (before coming) c.in_ok-there.ensures in
-    before_long n c.before-before.result coming declared is (comes_long n c.args.comes (held c.args.frame) c.requires.locals) (declared_long n c.args.declared c.requires.declared)
+detail_at-requires-clause-locals g c = c.take_declared.ensures.rest.size ∙ c.requires.locals
+
+pub detail_at-requires-clause-numbers : goal.detail_at-requires-clause-numbers
+detail_at-requires-clause-numbers g c =
+    let same = types_stay c.args.frames.now c.take_declared.new.frames c.take_declared.ensures.rest in
+    subst (λ s. AreRuleNumbers s (method_view c.args.body.now.method.now) c.args.body.now.numbers) (sym same) c.requires.numbers
+
+pub detail_at-requires-clause-before : goal.detail_at-requires-clause-before
+detail_at-requires-clause-before g c =
+    before_is c.args.comes (held c.args.frames.now) (held c.take_declared.new.frames) (option_map frame_of c.in_ok-coming.coming) c.in_ok-declared.declared c.in_ok-coming.ensures c.in_ok-declared.ensures.running
+
+pub returns-clause-found : goal.returns-clause-found
+returns-clause-found g c =
+    let x = c.args.frames.now in
+    let m = method_view c.args.body.now.method.now in
+    let a = act_view c.args.refused.act in
+    let at = c.args.refused.at in
+    met_is x c.take_declared.new.frames c.take_declared.ensures.rest m at (typing_rule m a) a (reason_number c.args.refused.reason)
+    (option_map frame_of c.in_ok-coming.coming) (option_map frame_of c.in_ok-declared.declared) (frame_if c.args.comes (held x)) (at_offset (frames_by x.types x.declared) at)
+    (option_map detail_of c.in_ok-met.field-0) c.in_ok-coming.ensures c.in_ok-declared.ensures.found c.in_ok-met.ensures.found
+
+pub returns-clause-rest : goal.returns-clause-rest
+returns-clause-rest g c = running_then c.args.frames.now c.take_declared.new.frames c.detail_at.new.frames c.take_declared.ensures.rest c.detail_at.ensures.rest
+
+pub returns-in_err-met-clause-rest : goal.returns-in_err-met-clause-rest
+returns-in_err-met-clause-rest g c = running_then c.args.frames.now c.take_declared.new.frames c.detail_at.new.frames c.take_declared.ensures.rest c.detail_at.ensures.rest

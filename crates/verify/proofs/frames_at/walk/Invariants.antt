@@ -1,6 +1,6 @@
-use Rattle.std.proofs.Common.{◌≡◌, true, Some, length}
-use Rattle.frames.specs.DeclaredTables.{frames_in}
-use Rattle.rules.specs.Held.{held}
+use Rattle.std.proofs.Common.{◌≡◌, Some, length}
+use Rattle.method_frames.specs.MapFrames.{frames_by}
+use Rattle.numbered_rules.specs.Held.{held, IsRunning}
 use Rattle.rules.specs.Reasons.{reason_number}
 use Rattle.rules.specs.Table.{typing_rule}
 use Rattle.rules.specs.Bodies.{method_view}
@@ -10,12 +10,14 @@ use Rattle.verify.proofs.frames_at.walk.Given as goal
 
 abbrev pub invariant-loop-code : goal.invariant-loop-code
 invariant-loop-code g l =
-    let classes = g.C.Classes.content l.body.classes.now in
+    let start = l.fn.frames in
+    let classes = start.types.classes in
     let m = method_view l.body.method.now in
-    let frames = frames_in l.body.frames.now in
+    let frames = frames_by start.types start.declared in
+    let n = reason_number l.refusal.reason in
     record {
-      walks : Walks classes m frames (reason_number l.refusal.reason) l.refusal.at l.last (length l.body.method.now.code.now.code.now) l.code (frame_if l.comes (held l.frame)) (met typing_rule classes m frames (reason_number l.refusal.reason) m.code (Some (held l.fn.first)) l.refusal.at);
-      locals : l.comes ≡ true → length (held l.frame).locals ≡ l.body.method.now.code.now.max_locals;
+      walks : Walks classes m frames n l.refusal.at (length l.body.method.now.code.now.code.now) l.code (frame_if l.comes (held l.frames)) (met typing_rule classes m frames n m.code (Some (held start)) l.refusal.at);
+      running : IsRunning start l.frames;
       constants : l.constants.members ≡ l.fn.constants.members;
     }
 

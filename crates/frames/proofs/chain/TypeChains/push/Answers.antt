@@ -2,7 +2,6 @@ use Rattle.std.proofs.Common.{arith, is_ok}
 use Rattle.frames.specs.TypeChains.{types_at}
 use Rattle.frames.specs.declared.chain.Link.{Link}
 use Rattle.frames.proofs.TypeChains.{types_short, units_few, linked_pushed, grown_pushed}
-use Rattle.frames.proofs.Sharing.{leads_on}
 use Rattle.frames.proofs.chain.TypeChains.push.Goals as goal
 
 pub with-sums-requires-clause-few : goal.with-sums-requires-clause-few
@@ -16,11 +15,11 @@ with-sums-requires-clause-some c = omega (arith, c.sums.ensures.count, c.sums.en
 pub invariant_of-self : goal.invariant_of-self
 invariant_of-self c =
     let old = c.args.self.now.links.items in
-    let x : Link = record { vtype = c.args.vtype; below = c.args.below; skip = c.skip_above-skip.result; sums = c.with-sums.result } in
-    record { linked = linked_pushed old c.push.new.self.items x (is_ok c.push.result) c.push.ensures.items c.args.self.now.linked c.requires (leads_on old c.args.self.now.linked c.args.below c.skip_above-skip.result c.requires c.skip_above-skip.ensures) (c.with-sums.ensures (types_at old c.args.below) c.sums.ensures) }
+    let x : Link = record { vtype = c.args.vtype; below = c.args.below; sums = c.with-sums.result } in
+    record { linked = linked_pushed old c.push.new.self.items x (is_ok c.push.result) c.push.ensures.items c.args.self.now.linked c.requires (c.with-sums.ensures (types_at old c.args.below) c.sums.ensures) }
 
 pub returns : goal.returns
 returns c =
     let old = c.args.self.now.links.items in
-    let x : Link = record { vtype = c.args.vtype; below = c.args.below; skip = c.skip_above-skip.result; sums = c.with-sums.result } in
-    grown_pushed old c.push.new.self.items x c.len.result c.in_ok-push.ensures.items c.args.self.now.linked c.requires (leads_on old c.args.self.now.linked c.args.below c.skip_above-skip.result c.requires c.skip_above-skip.ensures) (c.with-sums.ensures (types_at old c.args.below) c.sums.ensures) (omega (arith, c.len.ensures, c.push.new.self.ok.0))
+    let x : Link = record { vtype = c.args.vtype; below = c.args.below; sums = c.with-sums.result } in
+    grown_pushed old c.push.new.self.items x c.len.result c.in_ok-push.ensures.items c.args.self.now.linked c.requires (c.with-sums.ensures (types_at old c.args.below) c.sums.ensures) (omega (arith, c.len.ensures, c.push.new.self.ok.0))

@@ -1,5 +1,5 @@
 use Rattle.frames.specs.DeclaredTables.{declared_view}
-use Rattle.frames.proofs.Comparison.{flag_is}
+use Rattle.frames.proofs.Walks.{flag_is}
 use Rattle.frames.proofs.declared_frames.Declared.flag.Goals as goal
 
 pub returns : goal.returns

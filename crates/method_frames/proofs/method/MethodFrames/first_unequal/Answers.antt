@@ -1,6 +1,4 @@
-use Rattle.std.proofs.Common.{◌∙◌, length, ap}
-use Rattle.method_frames.specs.NumberedFrames.{NumberedFrame, NumberedFrames}
-use Rattle.method_frames.proofs.MethodParts.{is_declared, its_frame}
+use Rattle.method_frames.proofs.MethodParts.{is_declared, its_locals}
 use Rattle.method_frames.proofs.method.MethodFrames.first_unequal.Goals as goal
 
 pub first_unequal-requires-clause-row : goal.first_unequal-requires-clause-row
@@ -16,6 +14,4 @@ first_unequal-requires-clause-other g c =
 pub returns-clause-even : goal.returns-clause-even
 returns-clause-even g c =
     let x = c.self.inside in
-    let own = is_declared x.locals x.stacks x.flag x.max_locals x.declared.items x.places.items c.args.self.now c.self.view_is c.self.invariant c.args.frame c.requires.frame c.index.result.now c.index.ensures in
-    let is = its_frame x.locals x.stacks x.flag x.max_locals x.declared.items x.places.items c.args.self.now c.self.view_is c.self.invariant c.args.frame c.requires.frame c.index.result.now c.index.ensures in
-    ap (λ (f : NumberedFrame). length f.locals) is ∙ own.even ∙ ap (λ (y : NumberedFrames). length y.running.locals) c.self.view_is
+    its_locals x.locals x.stacks x.flag x.max_locals x.declared.items x.places.items c.args.self.now c.self.view_is c.self.invariant c.args.frame c.requires.frame c.index.result.now c.index.ensures
