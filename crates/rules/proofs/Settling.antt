@@ -28,7 +28,7 @@ use Rattle.rules.specs.Rules.{is_short, operands, accepts, is_outside, gives_fra
 use Rattle.rules.specs.Outcomes.{Done, Took, TookOff, pushed, settled}
 use Rattle.rules.specs.Reasons.{reason_view}
 use Rattle.rules.specs.Views.{locals_of}
-use Rattle.rules.specs.Working.{with_locals}
+use Rattle.rules.specs.After.{with_locals}
 use Rattle.rules.proofs.Taking.{both_yes}
 
 -- with 65 before the conditions of a family
