@@ -1,15 +1,16 @@
-//! Single instructions of an instance initialization method.
-use crate::making::{array, cloneable, frame, hasher, object};
+//! Single instructions of an instance initialization method, by their rules.
 use classfile::{ClassFile, Formed, decode, form_check};
 use format_calls::making::OUT_OF_MEMORY;
 use frames::{Frame, VType};
 use hierarchy::{Classes, Rows};
-use insn::{Act, Branches, Insn, Kind, decode_code};
+use insn::{Branches, Insn, decode_code};
 use layout::MAX_CODE_BYTES;
+use lower_calls::making::{CLONING, CONSTRUCTING, array, cloneable, frame, hasher, object};
 use names::{Base, OBJECT};
-use rules::{After, Env, apply, branches, falls, is_plain};
+use rules::{branches, falls};
 use std::alloc::Global;
 use std::test::*;
+use verify::{After, Env, apply};
 
 /// The frame that an instruction leaves, or the number of the reason for which it is refused.
 type Judged<'a> = Result<After<'a>, u8>;
@@ -21,26 +22,6 @@ const INIT: [u8; 102] = [
     6, 0x3C, 0x69, 0x6E, 0x69, 0x74, 0x3E, 1, 0, 3, 0x28, 0x29, 0x56, 1, 0, 4, 0x43, 0x6F, 0x64,
     0x65, 0, 0x21, 0, 1, 0, 3, 0, 0, 0, 0, 0, 1, 0, 0, 0, 5, 0, 6, 0, 1, 0, 7, 0, 0, 0, 0x0D, 0, 4,
     0, 2, 0, 0, 0, 1, 0xB1, 0, 0, 0, 0, 0, 0,
-];
-
-/// The class file of K with the constants 8 and 9 for Object's `<init>`, and a method that calls that.
-pub const CONSTRUCTING: [u8; 114] = [
-    0xCA, 0xFE, 0xBA, 0xBE, 0, 0, 0, 0x34, 0, 10, 7, 0, 2, 1, 0, 1, 0x4B, 7, 0, 4, 1, 0, 0x10,
-    0x6A, 0x61, 0x76, 0x61, 0x2F, 0x6C, 0x61, 0x6E, 0x67, 0x2F, 0x4F, 0x62, 0x6A, 0x65, 0x63, 0x74,
-    1, 0, 6, 0x3C, 0x69, 0x6E, 0x69, 0x74, 0x3E, 1, 0, 3, 0x28, 0x29, 0x56, 1, 0, 4, 0x43, 0x6F,
-    0x64, 0x65, 12, 0, 5, 0, 6, 10, 0, 3, 0, 8, 0, 0x21, 0, 1, 0, 3, 0, 0, 0, 0, 0, 1, 0, 0, 0, 5,
-    0, 6, 0, 1, 0, 7, 0, 0, 0, 0x0F, 0, 4, 0, 2, 0, 0, 0, 3, 0xB7, 0, 9, 0, 0, 0, 0, 0, 0,
-];
-
-/// The class file of K with the constant 11 for Object's `clone`, and a method that calls that.
-pub const CLONING: [u8; 145] = [
-    0xCA, 0xFE, 0xBA, 0xBE, 0, 0, 0, 0x34, 0, 12, 7, 0, 2, 1, 0, 1, 0x4B, 7, 0, 4, 1, 0, 0x10,
-    0x6A, 0x61, 0x76, 0x61, 0x2F, 0x6C, 0x61, 0x6E, 0x67, 0x2F, 0x4F, 0x62, 0x6A, 0x65, 0x63, 0x74,
-    1, 0, 6, 0x3C, 0x69, 0x6E, 0x69, 0x74, 0x3E, 1, 0, 3, 0x28, 0x29, 0x56, 1, 0, 4, 0x43, 0x6F,
-    0x64, 0x65, 1, 0, 5, 0x63, 0x6C, 0x6F, 0x6E, 0x65, 1, 0, 0x14, 0x28, 0x29, 0x4C, 0x6A, 0x61,
-    0x76, 0x61, 0x2F, 0x6C, 0x61, 0x6E, 0x67, 0x2F, 0x4F, 0x62, 0x6A, 0x65, 0x63, 0x74, 0x3B, 12,
-    0, 8, 0, 9, 10, 0, 3, 0, 10, 0, 0x21, 0, 1, 0, 3, 0, 0, 0, 0, 0, 1, 0, 0, 0, 5, 0, 6, 0, 1, 0,
-    7, 0, 0, 0, 15, 0, 4, 0, 2, 0, 0, 0, 3, 0xB6, 0, 11, 0, 0, 0, 0, 0, 0,
 ];
 
 /// The class file of K with this byte as the method's code.
@@ -159,6 +140,26 @@ fn stacks(rt: HostRuntime) {
     assert!(rt; matches!(judge(alloc, &iadd, &[VType::Int], false), Err(61)));
 }
 
+/// Whether these types are then in the local variables, and nothing is on the stack.
+fn has_locals(judged: Judged<'_>, locals: &[VType<'_>]) -> bool {
+    match judged {
+        Ok(after) => after.frame.locals.as_slice() == locals && after.frame.stack.is_empty(),
+        Err(_) => false,
+    }
+}
+
+/// A long that is stored takes two local variables, of which there are two.
+#[test]
+fn stores(rt: HostRuntime) {
+    let alloc = rt.alloc();
+    let (istore_1, lstore_0, lstore_1) = (with(0x3C), with(0x3F), with(0x40));
+    let stored = judge(alloc, &istore_1, &[VType::Int], false);
+    assert!(rt; has_locals(stored, &[VType::Top, VType::Int]));
+    let stored = judge(alloc, &lstore_0, &[VType::Long], false);
+    assert!(rt; has_locals(stored, &[VType::Long, VType::Top]));
+    assert!(rt; matches!(judge(alloc, &lstore_1, &[VType::Long], false), Err(64)));
+}
+
 /// Whether a `return` is taken, and does not go on; otherwise the number of the reason.
 fn ends(alloc: Global, flag: bool) -> Result<bool, u8> {
     let after = judge(alloc, &INIT, &[], flag)?;
@@ -229,19 +230,6 @@ fn has_ways(alloc: Global) -> bool {
 #[test]
 fn ways(rt: HostRuntime) {
     assert!(rt; has_ways(rt.alloc()));
-}
-
-/// A `new` is not plain, since what the locals hold of its last object is forgotten.
-#[test]
-fn plain_instructions(rt: HostRuntime) {
-    assert!(rt;
-        is_plain(&Act::Store {
-            kind: Kind::Int,
-            local: 1
-        })
-    );
-    assert!(rt; !is_plain(&Act::New { index: 1 }));
-    assert!(rt; !is_plain(&Act::Goto { offset: 0 }));
 }
 
 /// With memory enough no instruction is answered that it ran out, whatever else.
