@@ -12,11 +12,8 @@
 //! | `numbered_types` | `type_numbers`: types as numbers, and tables of constants by them |
 //! | `numbered_frames` | `method_frames`: frames by numbers, changed, declared, found, taken on and compared |
 //! | `stack_maps`, `declared_frames` | `frames`: stack maps both ways, their frames, and entries at fault |
-//! | `operand_stacks` | `frames`: the operand stack of a running frame, and the objects on it |
-//! | `running_locals` | `frames`: the local variables of a running frame, and the objects in them |
 //! | `shared_rows` | `blocks`: rows of numbers, changed, declared, taken on and compared |
-//! | `instruction_rules` | `rules`: single instructions |
-//! | `instructions_in_place` | `rules`: instructions in place, what they name and a frame lacks, and reasons together |
+//! | `expected_types` | `rules`: what instructions name, their ways, what a frame lacks, and reasons together |
 //! | `printed_text` | `printing`: texts of class files, names and faults |
 //! | `making` | what several of them, and of those in `public_calls`, stand on |
 //!
@@ -32,24 +29,18 @@ mod declared_frames;
 #[cfg(test)]
 mod differences;
 #[cfg(test)]
+mod expected_types;
+#[cfg(test)]
 mod guarded_members;
-#[cfg(test)]
-mod instruction_rules;
-#[cfg(test)]
-mod instructions_in_place;
 pub mod making;
 #[cfg(test)]
 mod numbered_frames;
 #[cfg(test)]
 mod numbered_types;
 #[cfg(test)]
-mod operand_stacks;
-#[cfg(test)]
 mod packed_frames;
 #[cfg(test)]
 mod printed_text;
-#[cfg(test)]
-mod running_locals;
 #[cfg(test)]
 mod shared_rows;
 #[cfg(test)]

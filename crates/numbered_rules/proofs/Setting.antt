@@ -9,7 +9,7 @@ use Rattle.type_numbers.specs.Decoding.{type_by, types_by}
 use Rattle.method_frames.specs.NumberedFrames.{NumberedFrames}
 use Rattle.rules.specs.After.{stored_type}
 use Rattle.rules.specs.Views.{with_half_free}
-use Rattle.rules.specs.Working.{with_locals}
+use Rattle.rules.specs.After.{with_locals}
 use Rattle.rules.proofs.Storing.{free_first, free_wide, free_narrow, store_narrow, store_last, store_wide}
 use Rattle.numbered_rules.specs.Held.{held}
 

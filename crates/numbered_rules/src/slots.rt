@@ -4,7 +4,7 @@ ghost use Rattle.type_numbers.specs.Numbers.{IsGiven};
 ghost use Rattle.type_numbers.specs.Decoding.{type_by};
 ghost use Rattle.rules.specs.After.{stored_type};
 ghost use Rattle.rules.specs.Views.{with_half_free};
-ghost use Rattle.rules.specs.Working.{with_locals};
+ghost use Rattle.rules.specs.After.{with_locals};
 ghost use Rattle.numbered_rules.specs.Held.{held, IsRunning};
 
 use crate::kinds::TOP;

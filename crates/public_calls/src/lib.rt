@@ -6,6 +6,7 @@
 //! |---|---|
 //! | `machine_steps`, `object_steps` | `machine`: single steps |
 //! | `walks`, `walk_choices` | `machine`: steps by a list of choices, from where a method begins |
+//! | `instruction_rules` | `verify`: single instructions by their rules |
 //! | `verdicts` | `verify`: verdicts and reports |
 //! | `verified_files` | `verify`: verdicts on the classes that files are, alone, among known ones and in play |
 //! | `judged_files` | `verify`: verdicts on the classes that many files are, each among all of them |
@@ -29,6 +30,8 @@ mod dynamic_calls;
 mod fault_texts;
 #[cfg(test)]
 mod file_answers;
+#[cfg(test)]
+mod instruction_rules;
 #[cfg(test)]
 mod judged_files;
 #[cfg(test)]

@@ -15,7 +15,7 @@ use Rattle.rules.specs.After.{after, top_of, rest_of, forgotten, initialized, cl
 use Rattle.rules.specs.Replacing.{initialized_frame}
 use Rattle.rules.specs.Rules.{is_short, operands, may_construct, is_too_wide, is_on_stack, conditions}
 use Rattle.rules.specs.Outcomes.{Done, TookOff, pushed, settled}
-use Rattle.rules.specs.Working.{with_locals}
+use Rattle.rules.specs.After.{with_locals}
 use Rattle.rules.proofs.Settling.{with_depth, redone}
 
 -- ---- new

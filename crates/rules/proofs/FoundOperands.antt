@@ -1,6 +1,6 @@
 -- Where an instruction is refused for an operand or a local variable, the first that the frame has not is found.
 use Rattle.std.proofs.Common.{◌≡◌, ◌⊎◌, ◌∙◌, ℕ, suc, ◌+◌, length, is_none, eqb-true, eq-eqb, Bool, true, false, ◌||◌, ◌&&◌, not, is_some, nat_eq, nat_lt, List, [], ◌∷◌, Option, Some, None, refl, sym, ap, inl, inr, true≢false, if◌then◌else◌}
-use Rattle.std.specs.Option.{option_or, option_map}
+use Rattle.std.specs.Option.{option_or}
 use Rattle.classfile.specs.Methods.{Method}
 use Rattle.hierarchy.specs.Class.{ClassFact}
 use Rattle.hierarchy.specs.Answer.{Outcome, yes, no, missing}
@@ -8,13 +8,13 @@ use Rattle.insn.specs.declared.operation.Kind.TheVariants.{Int}
 use Rattle.insn.specs.Meanings.{Act}
 use Rattle.insn.specs.Offsets.{IsAmong}
 use Rattle.insn.specs.Stacks.{beneath, units_taken}
-use Rattle.frames.specs.VerificationType.{VerificationType, top, int, float, long, double, null, class, array, uninit_this, uninit}
+use Rattle.frames.specs.VerificationType.{VerificationType, class}
 use Rattle.frames.specs.FrameFact.{FrameFact}
 use Rattle.frames.specs.Assignable.{type_answer}
 use Rattle.frames.specs.FrameAssignable.{both}
 use Rattle.frames.specs.Slots.{to_reference, units_of}
 use Rattle.frames.specs.Conditions as conditions
-use Rattle.frames.specs.Conditions.{Reason, reason, class_missing, with_fault, Conditions, lesser, least, missing_if, number_of}
+use Rattle.frames.specs.Conditions.{Reason, reason, Conditions, lesser, least, missing_if, number_of}
 use Rattle.frames.specs.Differences.{is_no}
 use Rattle.frames.proofs.Differences.{no_both, some_map, some_flag, the_some}
 use Rattle.rules.specs.TypingRules.{ExpectedType, number, any_reference, TypingRule, pops, loads, stores, counts, rearranges, loads_element, makes, constructs, calls_special, returns, refuses}
@@ -22,8 +22,8 @@ use Rattle.rules.specs.Table.{typing_rule, object_array}
 use Rattle.rules.specs.After.{form_for, top_of, local_of, after}
 use Rattle.rules.specs.Rules.{accepts, is_short, operands, operand_conditions, is_outside, local_answer, local_conditions, is_on_stack, may_construct, special_conditions, family, gives_frame, is_too_wide}
 use Rattle.rules.specs.Rules as rules
-use Rattle.rules.specs.ExpectedTypes.{ExpectedTypes, ExpectedLocal, expected_types}
-use Rattle.rules.specs.Unmet.{UnmetFact, OperandFact, operand, receiver, local, units, absent_operand, sought_operand, operand_of, first_of, absent_receiver, wrong_receiver, sought_local, absent_units, receivers, count_of, receiver_in, absent, wrong, first_unmet}
+use Rattle.rules.specs.ExpectedTypes.{ExpectedTypes, expected_types}
+use Rattle.rules.specs.Unmet.{UnmetFact, operand, receiver, local, units, absent_operand, sought_operand, operand_of, first_of, absent_receiver, wrong_receiver, sought_local, absent_units, receivers, count_of, receiver_in, absent, wrong, first_unmet}
 use Rattle.rules.specs.UnmetLaws.{HasNoForm, of_no_form, still_there, IsFound, RefusedIsFound, UnmetIsFound}
 use Rattle.rules.proofs.Directions.{is_of_table, is_else, way_of}
 

@@ -257,30 +257,7 @@ module _ (pool : List Entry) (old : References) (keyed : AreKeyed pool old) (k :
           ap length keys ∙ length-append old.keys.items (k ∷ []) ∙ ap (λ n. n + 1) keyed.together ∙ sym (length-append old.references.items (m ∷ []))
           ∙ sym (ap length references)
 
--- one that is there already
-pub found_again : (pool : List Entry) (old : References) (keyed : AreKeyed pool old) (k : Key) (m : MemberRef) → IsKeyed pool k m → (number : ℕ) → slice_get old.keys.items number ≡ Some k
-    → Numbers pool old old (reference_of m) number
-found_again pool old keyed k m is number e =
-    let x = keyed.each number k e in
-    let same : Some x.0 ≡ Some (reference_of m) = sym x.1 ∙ is in
-    record { here = x.2 ∙ same; kept = λ n y i. i; keyed = keyed }
-
 -- ---- one entry after the other
-
-pub reads_some : (c : ClassFile) (e : Entry) (old now : References) (m : MemberRef) (number : ℕ) → read_entry c e ≡ Some (reference_of m)
-    → Numbers c.constant_pool old now (reference_of m) number → Reads c e old now number
-reads_some c e old now m number is x = record {
-  here = λ r i. let same : Some (reference_of m) ≡ Some r = sym is ∙ i in x.here ∙ same;
-  kept = x.kept;
-  keyed = x.keyed;
-}
-
-pub reads_none : (c : ClassFile) (e : Entry) (old : References) (number : ℕ) → read_entry c e ≡ None → AreKeyed c.constant_pool old → Reads c e old old number
-reads_none c e old number none keyed = record {
-  here = λ r i. let clash : None ≡ Some r = sym none ∙ i in cc;
-  kept = λ n x i. i;
-  keyed = keyed;
-}
 
 pub none_read : (c : ClassFile) (references : List MemberRef) → AreRead c [] [] references
 none_read c references = record { all = refl; each = λ place e r h k. cc }

@@ -15,11 +15,9 @@ use Rattle.insn.specs.Meanings.{Act}
 use Rattle.insn.specs.Stacks.{same_kind, computed_as}
 use Rattle.frames.specs.VerificationType.{array}
 use Rattle.frames.specs.Slots.{to_reference, descriptor_type}
-use Rattle.frames.specs.FrameFact.{FrameFact}
-use Rattle.rules.specs.TypingRules.{TypingRule, number, pops, loads, stores, counts, rearranges, loads_element, makes, constructs, calls_special, returns, refuses, gives, sizes, call_of, where_judged, where_allowed, where_bootstrapped}
+use Rattle.rules.specs.TypingRules.{TypingRule, number, pops, stores, makes, constructs, refuses, gives, sizes, call_of, where_judged, where_allowed, where_bootstrapped}
 use Rattle.rules.specs.Constants.{is_bootstrapped, load_dynamic, load_constant, load_wide_constant, get_static, put_static, get_field, put_field, is_init_name, may_name, has_room_for_receiver, static_call, call_on, may_invoke_interface, invoke_static, invoke_virtual, invoke_interface, is_special_name, dynamic_call, invoke_dynamic, new_array, new_reference_array, new_multi_array, check_cast, instance_of}
 use Rattle.rules.specs.Table.{typing_rule, leaves_with, return_number, return_reference, return_nothing}
-use Rattle.rules.specs.After.{after}
 use Rattle.rules.specs.Ways.{keeps_locals}
 
 abbrev pub changes_none : TypingRule → Bool
@@ -27,19 +25,6 @@ changes_none (stores expected n width) = false
 changes_none (makes name) = false
 changes_none (constructs name expected_types) = false
 changes_none _ = true
-
-changed_none : (m : Method Act) (at : ℕ) (p : TypingRule) (f : FrameFact) → changes_none p ≡ true → (after m at p f).locals ≡ f.locals
-changed_none m at (pops expected_types gives offsets on) f e = refl
-changed_none m at (loads expected n width) f e = refl
-changed_none m at (stores expected n width) f e = cc
-changed_none m at (counts n) f e = refl
-changed_none m at (rearranges forms) f e = refl
-changed_none m at loads_element f e = refl
-changed_none m at (makes name) f e = cc
-changed_none m at (constructs name expected_types) f e = cc
-changed_none m at (calls_special type expected_types gives) f e = refl
-changed_none m at returns f e = refl
-changed_none m at (refuses n) f e = refl
 
 -- ---- typing rules that a constant or a result decides
 
@@ -226,6 +211,3 @@ by_typing_rule m (acts.InstanceOf i) e = instance_none (class_at m.constant_pool
 by_typing_rule m acts.Throw e = refl
 by_typing_rule m acts.Monitor e = refl
 by_typing_rule m acts.Unsupported e = refl
-
-pub locals_kept : (m : Method Act) (at : ℕ) (a : Act) (f : FrameFact) → keeps_locals a ≡ true → (after m at (typing_rule m a) f).locals ≡ f.locals
-locals_kept m at a f e = changed_none m at (typing_rule m a) f (by_typing_rule m a e)

@@ -1,5 +1,5 @@
 -- The least reason of two lists of conditions.
-use Rattle.std.proofs.Common.{◌≡◌, ◌⊎◌, ◌<◌, ◌≤◌, Bool, true, false, nat_lt, [], ◌∷◌, ◌++◌, Option, Some, None, Result, Ok, Err, refl, sym, ◌∙◌, ap, arith, inl, inr, if◌then◌else◌}
+use Rattle.std.proofs.Common.{◌≡◌, ◌⊎◌, ◌<◌, ◌≤◌, Bool, true, false, nat_lt, [], ◌∷◌, ◌++◌, Option, Some, None, Result, Ok, Err, refl, ◌∙◌, ap, arith, inl, inr, if◌then◌else◌}
 use Rattle.std.proofs.lemmas.Bool.Decides.{nat_tests}
 use Rattle.frames.specs.Conditions as conditions
 use Rattle.frames.specs.Conditions.{Conditions, number_of, lesser, least}
@@ -37,14 +37,6 @@ least_append (c ∷ cs) ds = by c.1 (least_append cs ds)
 
 pub both_least : (cs ds : Conditions) (x y : Option conditions.Reason) → least cs ≡ x → least ds ≡ y → least (cs ++ ds) ≡ merge x y
 both_least cs ds x y p q = least_append cs ds ∙ ap (λ z. merge z (least ds)) p ∙ ap (merge x) q
-
--- where none of all holds, none of the first holds
-pub rule_none : (cs ds : Conditions) → least (cs ++ ds) ≡ None → least cs ≡ None
-rule_none cs ds e = by (least cs) (least ds) (sym (least_append cs ds) ∙ e)
-  where
-    by : (x y : Option conditions.Reason) → merge x y ≡ None → x ≡ None
-    by None y q = refl
-    by (Some z) y q = cc
 
 -- ---- the reasons of the program
 

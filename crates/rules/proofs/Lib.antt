@@ -1,22 +1,16 @@
 pub mod Elements
 mod Examples
-pub mod Going
-pub mod HeldLocals
 pub mod Keeping
 pub mod Moving
-pub mod Plainly
 pub mod Settling
 pub mod Storing
 pub mod Taking
 pub mod Directions
 pub mod FoundOperands
 pub mod Arguments
-pub mod Replaced
 pub mod Constructors
 pub mod SpecialCalls
 pub mod Made
-pub mod Rising
-pub mod Written
 pub mod Lesser
 pub mod Guarding
 pub mod Using

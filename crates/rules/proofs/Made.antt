@@ -1,6 +1,5 @@
 -- No instruction makes an object of a class but `new`, and none calls constructors but `invokespecial`.
-use Rattle.std.proofs.Common.{◌≡◌, ℕ, zero, suc, ◌+◌, ◌-◌, ◌<◌, ◌≤◌, Bool, true, false, List, [], ◌∷◌, length, get_or, drop, map, Option, Some, None, refl, sym, ap, ◌∙◌, arith, if◌then◌else◌}
-use Rattle.std.proofs.lemmas.List.{drop_all, length-map, length-reverse, get_or-reverse, get_or-map}
+use Rattle.std.proofs.Common.{◌≡◌, ℕ, ◌+◌, Bool, true, false, List, [], ◌∷◌, length, drop, Option, Some, None, refl, sym, ap, ◌∙◌, arith, if◌then◌else◌}
 use Rattle.std.specs.Prelude.{not, ◌&&◌}
 use Rattle.names.specs.Descriptors.{FieldDescriptor}
 use Rattle.names.specs.ReferenceTypes.{ReferenceType, class_type, array_type, is_class_type}
@@ -9,16 +8,12 @@ use Rattle.pool.specs.ConstantMeanings.{MethodConstant, class_at, method_at}
 use Rattle.insn.specs.Meanings as acts
 use Rattle.insn.specs.Meanings.{Act}
 use Rattle.insn.specs.Stacks.{beneath}
-use Rattle.frames.specs.declared.vtype.VType.{VType}
-use Rattle.frames.specs.DeclaredFrames.{is_uninit_this}
 use Rattle.frames.specs.FrameFact.{FrameFact}
 use Rattle.frames.specs.Marks.{new_index}
-use Rattle.frames.specs.VerificationType.{VerificationType, type_of, top}
+use Rattle.frames.specs.VerificationType.{VerificationType}
 use Rattle.rules.specs.Constants.{new_object, invoke_special, constructor_call, special_call, is_init_name, has_room_for_receiver, may_name}
-use Rattle.rules.specs.After.{top_of}
 use Rattle.rules.specs.Rules.{constructs_own}
-use Rattle.rules.specs.Views.{stack_of}
-use Rattle.rules.specs.TypingRules.{ExpectedType, expected_of, arguments_on, expected_class, result_types, TypingRule, pops, loads, stores, counts, rearranges, loads_element, makes, constructs, calls_special, returns, refuses, where_allowed}
+use Rattle.rules.specs.TypingRules.{ExpectedType, expected_of, arguments_on, TypingRule, pops, loads, stores, counts, rearranges, loads_element, makes, constructs, calls_special, returns, refuses, where_allowed}
 use Rattle.rules.specs.Table.{typing_rule, class_made, made_by}
 use Rattle.rules.specs.Ways.{keeps_locals, special_index}
 use Rattle.rules.proofs.Keeping.{changes_none, by_typing_rule}
@@ -188,32 +183,6 @@ own_by_index m acts.Throw f = never m acts.Throw f refl
 own_by_index m acts.Monitor f = never m acts.Monitor f refl
 own_by_index m acts.Unsupported f = never m acts.Unsupported f refl
 
--- a method that is named, if it is there
-module _ (m : Method Act) (f : FrameFact) where
-  allowed_own : (b : Bool) (name : List ℕ) (ws : List ExpectedType) → constructs_own (where_allowed b (constructs name ws)) f ≡ (b && constructs_own (constructs name ws) f)
-  allowed_own true name ws = refl
-  allowed_own false name ws = refl
-
-  allowed_never : (b : Bool) (type : ReferenceType) (ws : List ExpectedType) (gs : List VerificationType) → constructs_own (where_allowed b (calls_special type ws gs)) f ≡ false
-  allowed_never true type ws gs = refl
-  allowed_never false type ws gs = refl
-
-  by_class : (c : MethodConstant) (t : ReferenceType) → constructs_own (constructor_call c t) f ≡ ((is_class_type t && (not c.interface && has_room_for_receiver c)) && is_uninit_this (top_of (beneath (arguments_on c.type.params []) f.stack)))
-  by_class c (class_type name) = allowed_own (not c.interface && has_room_for_receiver c) name (arguments_on c.type.params [])
-  by_class c (array_type component) = refl
-
-  by_name : (b : Bool) (p q : TypingRule) (x y : Bool) → constructs_own p f ≡ (x && y) → constructs_own q f ≡ false → constructs_own (if b then p else q) f ≡ ((b && x) && y)
-  by_name true p q x y e g = e
-  by_name false p q x y e g = g
-
-  pub own_of : (c : MethodConstant)
-      → constructs_own (invoke_special m.major_version m.class (Some c)) f
-      ≡ ((is_init_name c && (is_class_type c.class && (not c.interface && has_room_for_receiver c))) && is_uninit_this (top_of (beneath (arguments_on c.type.params []) f.stack)))
-  own_of c =
-      by_name (is_init_name c) (constructor_call c c.class) (special_call m.major_version m.class c) (is_class_type c.class && (not c.interface && has_room_for_receiver c)) _
-      (by_class c c.class)
-      (allowed_never (is_class_type c.class && (has_room_for_receiver c && may_name m.major_version c.interface)) c.class (arguments_on c.type.params (expected_class m.class ∷ [])) (result_types c.type.result))
-
 -- ---- an item beneath arguments
 
 pub beneath_drops : {A B : Type 0} (ws : List A) (ts : List B) → beneath ws ts ≡ drop (length ws) ts
@@ -232,22 +201,6 @@ count_on (t ∷ ts) ws = omega (arith, count_on ts (expected_of t ∷ ws))
 pub beneath_arguments : (ts : List FieldDescriptor) (n : ℕ) (stack : List VerificationType) → n ≡ length ts → drop n stack ≡ beneath (arguments_on ts []) stack
 beneath_arguments ts n stack e =
     (let same : n ≡ length (arguments_on ts []) = omega (arith, e, count_on ts []) in ap (λ k. drop k stack) same) ∙ sym (beneath_drops (arguments_on ts []) stack)
-
-top_at : (ts : List VerificationType) (n : ℕ) → top_of (drop n ts) ≡ get_or ts n top
-top_at [] zero = refl
-top_at [] (suc n) = refl
-top_at (t ∷ ts) zero = refl
-top_at (t ∷ ts) (suc n) = top_at ts n
-
-pub item_at : (xs : List VType) (n : ℕ) (d : VType) → n < length xs → type_of (get_or xs (length xs - 1 - n) d) ≡ top_of (drop n (stack_of xs))
-item_at xs n d lt =
-    sym (get_or-map type_of xs (length xs - 1 - n) d top (omega (arith, lt)))
-    ∙ (let same : length xs - 1 - n ≡ length (map type_of xs) - 1 - n = omega (arith, length-map xs type_of) in ap (λ k. get_or (map type_of xs) k top) same)
-    ∙ sym (get_or-reverse (map type_of xs) n top (omega (arith, lt, length-map xs type_of)))
-    ∙ sym (top_at (stack_of xs) n)
-
-pub no_item : (xs : List VType) (n : ℕ) → length xs ≤ n → top ≡ top_of (drop n (stack_of xs))
-no_item xs n le = ap top_of (sym (drop_all n (stack_of xs) (omega (arith, le, length-reverse (map type_of xs), length-map xs type_of))))
 
 pub named_object : (t : Option ReferenceType) (name : List ℕ) → class_named t ≡ Some name → new_object t ≡ makes name
 named_object None name e = cc

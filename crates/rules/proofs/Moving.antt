@@ -1,26 +1,12 @@
 -- Instructions that move what is on the stack.
 use Rattle.std.proofs.Common.{◌≡◌, ℕ, ◌+◌, ◌<◌, ◌≤◌, Bool, ◌&&◌, true, false, List, [], ◌∷◌, length, get_or, drop, map, refl, ◌∙◌, ap, arith, Some, None, if◌then◌else◌}
 use Rattle.std.proofs.lemmas.List.{drop_more, drop_all}
-use Rattle.insn.specs.declared.stack.StackOperator.{StackOperator}
-use Rattle.insn.specs.declared.stack.StackOperator.TheVariants.{Pop, Pop2, Dup, DupX1, DupX2, Dup2, Dup2X1, Dup2X2, Swap}
 use Rattle.insn.specs.declared.stack.StackPlace.{StackPlace}
 use Rattle.insn.specs.declared.stack.StackForm as raw
-use Rattle.insn.specs.Acts.{StackForm, stack_forms}
-use Rattle.insn.specs.Stacks.{units_taken}
+use Rattle.insn.specs.Acts.{StackForm}
 use Rattle.insn.specs.Views.{stack_form_view}
 use Rattle.frames.specs.VerificationType.{VerificationType}
 use Rattle.rules.specs.After.{fits_place, fits_places, form_for}
-
-pub few_units : (operator : StackOperator) → units_taken (stack_forms operator) ≤ 6
-few_units Pop = omega arith
-few_units Pop2 = omega arith
-few_units Dup = omega arith
-few_units DupX1 = omega arith
-few_units DupX2 = omega arith
-few_units Dup2 = omega arith
-few_units Dup2X1 = omega arith
-few_units Dup2X2 = omega arith
-few_units Swap = omega arith
 
 -- ---- forms
 

@@ -1,9 +1,8 @@
 -- From the conditions of a family to those that are left to judge once its operands are there.
 use Rattle.std.specs.Prelude.{nat_lt, is_none, ◌&&◌, if◌then◌else◌}
-use Rattle.std.proofs.Common.{◌≡◌, ◌⊎◌, ℕ, zero, suc, ◌<◌, ◌≤◌, Bool, true, false, List, [], ◌∷◌, length, get_or, refl, sym, ◌∙◌, ap, subst, arith, inl, inr, Some, None, Option, Result, Ok, Err, slice_get}
+use Rattle.std.proofs.Common.{◌≡◌, ◌⊎◌, ℕ, ◌<◌, ◌≤◌, Bool, true, false, List, [], ◌∷◌, refl, sym, ◌∙◌, ap, subst, arith, inl, inr, Some, Option, Result, Ok, Err}
 use Rattle.std.proofs.lemmas.Bool.{cond-true}
 use Rattle.std.proofs.lemmas.Bool.Decides.{nat_tests}
-use Rattle.names.specs.Descriptors.{FieldDescriptor}
 use Rattle.classfile.specs.Methods.{Method}
 use Rattle.hierarchy.specs.declared.answer.Answer.{Answer}
 use Rattle.hierarchy.specs.declared.answer.Answer.TheVariants.{Yes, No, Missing}
@@ -14,21 +13,19 @@ use Rattle.insn.specs.Meanings.{Act}
 use Rattle.insn.specs.Views.{act_view}
 use Rattle.insn.specs.Acts.{StackForm}
 use Rattle.insn.specs.Stacks.{beneath, rearranged, units_taken}
-use Rattle.frames.specs.declared.vtype.VType.{VType}
-use Rattle.frames.specs.VerificationType.{VerificationType, type_of}
+use Rattle.frames.specs.VerificationType.{VerificationType}
 use Rattle.frames.specs.FrameFact.{FrameFact}
 use Rattle.frames.specs.Slots.{units_of}
 use Rattle.frames.specs.Conditions.{Reason as Refusing, reason, Conditions, least, is_no, missing_if}
 use Rattle.rules.specs.declared.reason.Reason.{Reason}
 use Rattle.rules.specs.declared.reason.Reason.TheVariants.{OutOfMemory}
 use Rattle.rules.specs.TypingRules.{ExpectedType, pops, loads, stores, rearranges, refuses, TypingRule, where_judged, where_allowed, where_bootstrapped}
-use Rattle.rules.specs.Table.{return_nothing, typing_rule}
-use Rattle.rules.specs.After.{or_top, local_of, after, with_stack, top_of, rest_of, stored, stored_type, form_for, rearranged_by}
+use Rattle.rules.specs.Table.{typing_rule}
+use Rattle.rules.specs.After.{local_of, after, with_stack, top_of, rest_of, stored, stored_type, form_for, rearranged_by}
 use Rattle.rules.specs.Rules.{is_short, operands, accepts, is_outside, gives_frame, is_too_wide, conditions}
 use Rattle.rules.specs.Outcomes.{Done, Took, TookOff, pushed, settled}
 use Rattle.rules.specs.Reasons.{reason_view}
-use Rattle.rules.specs.Views.{locals_of}
-use Rattle.rules.specs.Working.{with_locals}
+use Rattle.rules.specs.After.{with_locals}
 use Rattle.rules.proofs.Taking.{both_yes}
 
 -- with 65 before the conditions of a family
@@ -75,12 +72,6 @@ module _ (cs : List ClassFact) (m : Method Act) (ws : List ExpectedType) (gs : L
   abbrev wide : Bool
   wide = is_too_wide m (after m 0 (pops ws gs [] true) f)
 
-  pub pops_short : is_short ws f.stack ≡ true → least (conditions cs m 0 (pops ws gs [] true) f) ≡ Some (reason 61)
-  pops_short e = parts_short (is_short ws f.stack) (operands cs ws f.stack) wide e
-
-  pub pops_no : (us : List VerificationType) → Took cs ws f.stack no us → least (conditions cs m 0 (pops ws gs [] true) f) ≡ Some (reason 62)
-  pops_no us t = parts_no (is_short ws f.stack) (operands cs ws f.stack) wide t.enough t.answer_is
-
   pops_settled : (a : Outcome) (us : List VerificationType) → Took cs ws f.stack a us → (a ≡ no → ⊥) → least (conditions cs m 0 (pops ws gs [] true) f) ≡ least (settled m a (pushed gs (with_stack f us)))
   pops_settled a us t n =
       parts_settled (is_short ws f.stack) (operands cs ws f.stack) wide t.enough (λ e. n (sym t.answer_is ∙ e))
@@ -97,10 +88,6 @@ module _ (cs : List ClassFact) (m : Method Act) (ws : List ExpectedType) (gs : L
 abbrev pub local_parts : Bool → Outcome → Conditions
 local_parts o a = (reason 63, is_no (if o then yes else a)) ∷ (reason 64, o) ∷ missing_if (if o then yes else a) ∷ []
 
-local_out : (o : Bool) (a : Outcome) (w : Bool) → o ≡ true → least (with_depth w (local_parts o a)) ≡ Some (reason 64)
-local_out true a w e = refl
-local_out false a w e = cc
-
 pub local_no : (o : Bool) (a : Outcome) (w : Bool) → o ≡ false → a ≡ no → least (with_depth w (local_parts o a)) ≡ Some (reason 63)
 local_no true a w e n = cc
 local_no false yes w e n = cc
@@ -113,11 +100,6 @@ local_settled false yes w e n = refl
 local_settled false no w e n = absurd (n refl)
 local_settled false (missing m) w e n = refl
 
-pub local_at : (xs : List VType) (n : ℕ) (d : VType) → n < length xs → or_top (slice_get (locals_of xs) n) ≡ type_of (get_or xs n d)
-local_at [] n d lt = absurd (omega (arith, lt))
-local_at (x ∷ xs) zero d lt = refl
-local_at (x ∷ xs) (suc n) d lt = local_at xs n d (omega (arith, lt))
-
 pub not_less : (a b : ℕ) → b ≤ a → nat_lt a b ≡ false
 not_less a b le = grind (arith, nat_tests)
 
@@ -126,9 +108,6 @@ is_less a b lt = grind (arith, nat_tests)
 
 -- a load
 module _ (cs : List ClassFact) (m : Method Act) (w : ExpectedType) (n k : ℕ) (f : FrameFact) where
-  pub load_out : is_outside m n k ≡ true → least (conditions cs m 0 (loads w n k) f) ≡ Some (reason 64)
-  load_out o = local_out (is_outside m n k) (accepts cs w (local_of n f)) (is_too_wide m (after m 0 (loads w n k) f)) o
-
   pub load_no : (t : VerificationType) → local_of n f ≡ t → is_outside m n k ≡ false → accepts cs w t ≡ no → least (conditions cs m 0 (loads w n k) f) ≡ Some (reason 63)
   load_no t at o a = local_no (is_outside m n k) (accepts cs w (local_of n f)) (is_too_wide m (after m 0 (loads w n k) f)) o (ap (accepts cs w) at ∙ a)
 
@@ -146,9 +125,6 @@ module _ (cs : List ClassFact) (m : Method Act) (ws : List ExpectedType) (gs : L
   took : (a : Outcome) (g : FrameFact) → TookOff cs ws f a g → Took cs ws f.stack a (beneath ws f.stack)
   took a g t = record { enough = t.enough; answer_is = t.answer_is; left_is = refl }
 
-  pub off_no : (g : FrameFact) → TookOff cs ws f no g → least (conditions cs m 0 (pops ws gs [] true) f) ≡ Some (reason 62)
-  off_no g t = pops_no cs m ws gs f (beneath ws f.stack) (took no g t)
-
   pub off_done : (a : Outcome) (g now : FrameFact) (r : Result Unit Reason) → TookOff cs ws f a g → (a ≡ no → ⊥) → Done (settled m a (pushed gs g)) (pushed gs g) now r → Done (conditions cs m 0 (pops ws gs [] true) f) (after m 0 (pops ws gs [] true) f) now r
   off_done a g now r t n d = pops_done cs m ws gs f a (beneath ws f.stack) now r (took a g t) n (subst (λ z. Done (settled m a (pushed gs z)) (pushed gs z) now r) t.left_is d)
 
@@ -156,15 +132,6 @@ module _ (cs : List ClassFact) (m : Method Act) (ws : List ExpectedType) (gs : L
 
 abbrev pub store_parts : Bool → Bool → Outcome → Conditions
 store_parts o short a = (reason 64, o) ∷ operand_parts short a
-
-store_short : (o s : Bool) (a : Outcome) (w : Bool) → s ≡ true → least (with_depth w (store_parts o s a)) ≡ Some (reason 61)
-store_short o false a w e = cc
-store_short true true yes w e = refl
-store_short true true no w e = refl
-store_short true true (missing n) w e = refl
-store_short false true yes w e = refl
-store_short false true no w e = refl
-store_short false true (missing n) w e = refl
 
 store_no : (o s : Bool) (a : Outcome) (w : Bool) → s ≡ false → a ≡ no → least (with_depth w (store_parts o s a)) ≡ Some (reason 62)
 store_no o true a w e n = cc
@@ -190,9 +157,6 @@ store_settled false false (missing m) w e q n = refl
 module _ (cs : List ClassFact) (m : Method Act) (w : ExpectedType) (n k : ℕ) (f : FrameFact) where
   abbrev wide_then : Bool
   wide_then = is_too_wide m (stored n f)
-
-  pub stores_short : f.stack ≡ [] → least (conditions cs m 0 (stores w n k) f) ≡ Some (reason 61)
-  stores_short e = store_short (is_outside m n k) (is_short (w ∷ []) f.stack) (operands cs (w ∷ []) f.stack) wide_then (ap (is_short (w ∷ [])) e)
 
   module _ (t : VerificationType) (us : List VerificationType) (e : f.stack ≡ t ∷ us) where
     enough : is_short (w ∷ []) f.stack ≡ false
@@ -221,9 +185,6 @@ module _ (cs : List ClassFact) (m : Method Act) (w : ExpectedType) (n k : ℕ) (
         (ap (λ z. record { locals = z; stack = rest_of f.stack; flag = f.flag }) locals_is ∙ ap (λ z. record { locals = locals; stack = z; flag = f.flag }) stack_is) d
 
 module _ (cs : List ClassFact) (m : Method Act) (w : ExpectedType) (n k : ℕ) (f g : FrameFact) (t : VerificationType) (e : f ≡ pushed (t ∷ []) g) where
-  pub store_off_no : accepts cs w t ≡ no → least (conditions cs m 0 (stores w n k) f) ≡ Some (reason 62)
-  store_off_no a = stores_no cs m w n k f t g.stack (ap (λ (z : FrameFact). z.stack) e) a
-
   pub store_off_out : (a : Outcome) → a ≡ accepts cs w t → (a ≡ no → ⊥) → is_outside m n k ≡ true → least (conditions cs m 0 (stores w n k) f) ≡ Some (reason 64)
   store_off_out a ac ne o = stores_out cs m w n k f t g.stack (ap (λ (z : FrameFact). z.stack) e) a ac ne o
 
@@ -243,11 +204,6 @@ move_few true true w e = refl
 move_few true false w e = refl
 move_few false none w e = cc
 
-move_none : (few none w : Bool) → few ≡ false → none ≡ true → least (with_depth w (move_parts few none)) ≡ Some (reason 62)
-move_none true none w e n = cc
-move_none false false w e n = cc
-move_none false true w e n = refl
-
 move_settled : (few none w : Bool) → few ≡ false → none ≡ false → least (with_depth w (move_parts few none)) ≡ least ((reason 65, w) ∷ missing_if yes ∷ [])
 move_settled true none w e n = cc
 move_settled false true w e n = cc
@@ -257,9 +213,6 @@ move_settled false false false e n = refl
 module _ (cs : List ClassFact) (m : Method Act) (forms : List StackForm) (f : FrameFact) where
   pub moves_few : units_of f.stack < units_taken forms → least (conditions cs m 0 (rearranges forms) f) ≡ Some (reason 61)
   moves_few lt = move_few (nat_lt (units_of f.stack) (units_taken forms)) (is_none (form_for forms f.stack)) (is_too_wide m (after m 0 (rearranges forms) f)) (is_less _ _ lt)
-
-  pub moves_none : units_taken forms ≤ units_of f.stack → form_for forms f.stack ≡ None → least (conditions cs m 0 (rearranges forms) f) ≡ Some (reason 62)
-  moves_none le e = move_none (nat_lt (units_of f.stack) (units_taken forms)) (is_none (form_for forms f.stack)) (is_too_wide m (after m 0 (rearranges forms) f)) (not_less _ _ le) (ap is_none e)
 
   pub moves_done : (form : StackForm) (stack : List VerificationType) (now : FrameFact) (r : Result Unit Reason) → units_taken forms ≤ units_of f.stack → form_for forms f.stack ≡ Some form → stack ≡ rearranged form f.stack
       → Done (settled m yes (with_stack f stack)) (with_stack f stack) now r → Done (conditions cs m 0 (rearranges forms) f) (after m 0 (rearranges forms) f) now r
@@ -271,13 +224,6 @@ module _ (cs : List ClassFact) (m : Method Act) (forms : List StackForm) (f : Fr
       (ap (with_stack f) stack_is) d
 
 -- ---- a return without a value, at any offset
-
-pub returned : (m : Method Act) (at : ℕ) (p : TypingRule) (cs : List ClassFact) (f now : FrameFact) (r : Result Unit Reason) → p ≡ return_nothing m.type.result → Done (conditions cs m 0 (return_nothing m.type.result) f) (after m 0 (return_nothing m.type.result) f) now r → Done (conditions cs m at p f) (after m at p f) now r
-returned m at p cs f now r e d = subst (λ q. Done (conditions cs m at q f) (after m at q f) now r) (sym e) (at_offset m.type.result d)
-  where
-    at_offset : (t : Option FieldDescriptor) → Done (conditions cs m 0 (return_nothing t) f) (after m 0 (return_nothing t) f) now r → Done (conditions cs m at (return_nothing t) f) (after m at (return_nothing t) f) now r
-    at_offset None d = d
-    at_offset (Some t) d = d
 
 -- ---- by a typing rule that is found
 

@@ -21,11 +21,6 @@ use Rattle.rules.proofs.Settling.{with_depth, redone}
 abbrev parts : Outcome → Bool → Outcome → Conditions
 parts own short a = if is_no own then (reason 66, true) ∷ [] else (reason 61, short) ∷ (reason 62, is_no a) ∷ missing_if (both a own) ∷ []
 
-parts_wrong : (o : Outcome) (s : Bool) (a : Outcome) (w : Bool) → o ≡ no → least (with_depth w (parts o s a)) ≡ Some (reason 66)
-parts_wrong yes s a w e = cc
-parts_wrong no s a w e = refl
-parts_wrong (missing x) s a w e = cc
-
 parts_short : (o : Outcome) (s : Bool) (a : Outcome) (w : Bool) → (o ≡ no → ⊥) → s ≡ true → least (with_depth w (parts o s a)) ≡ Some (reason 61)
 parts_short o false a w n e = cc
 parts_short no true a w n e = absurd (n refl)
@@ -67,9 +62,6 @@ module _ (cs : List ClassFact) (m : Method Act) (at : ℕ) (type : ReferenceType
 
   abbrev own : Outcome
   own = type_answer cs (class m.class) (to_reference type)
-
-  pub special_wrong : own ≡ no → least all ≡ Some (reason 66)
-  special_wrong e = parts_wrong own (is_short ws f.stack) (operands cs ws f.stack) wide e
 
   module _ (n : own ≡ no → ⊥) where
     pub special_short : is_short ws f.stack ≡ true → least all ≡ Some (reason 61)

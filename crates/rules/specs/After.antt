@@ -18,6 +18,9 @@ use Rattle.rules.specs.TypingRules.{ExpectedType, TypingRule, pops, loads, store
 abbrev pub with_stack : FrameFact → List VerificationType → FrameFact
 with_stack f stack = record { locals = f.locals; stack = stack; flag = f.flag }
 
+abbrev pub with_locals : FrameFact → List VerificationType → FrameFact
+with_locals f locals = record { locals = locals; stack = f.stack; flag = f.flag }
+
 abbrev pub popped : List ExpectedType → List VerificationType → FrameFact → FrameFact
 popped expected_types gives f = with_stack f (gives ++ beneath expected_types f.stack)
 

@@ -7,13 +7,10 @@ pub mod Rules
 pub mod Replacing
 pub mod Ways
 pub mod WayLaws
-pub mod Working
-pub mod Held
 pub mod Reasons
 pub mod Bodies
 pub mod Views
 pub mod Outcomes
-pub mod Applied
 pub mod Naming
 pub mod ExpectedTypes
 pub mod Unmet

@@ -1,6 +1,6 @@
 -- Where an instruction is refused for an operand or a local variable, the first of all that it takes that the frame
 -- before it has not is found (JVMS 4.10.1.9).
-use Rattle.std.specs.Prelude.{◌≡◌, ◌⊎◌, ℕ, true, List, Option, Some, None}
+use Rattle.std.specs.Prelude.{◌≡◌, ◌⊎◌, ℕ, true, List, Some, None}
 use Rattle.classfile.specs.Methods.{Method}
 use Rattle.hierarchy.specs.Class.{ClassFact}
 use Rattle.insn.specs.Acts.{StackForm}

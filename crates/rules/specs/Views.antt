@@ -1,5 +1,5 @@
 -- The values of the definitions that the program's values stand for.
-use Rattle.std.specs.Prelude.{ℕ, zero, suc, if◌then◌else◌, List, [], ◌∷◌, map, reverse, Option, Some, None}
+use Rattle.std.specs.Prelude.{ℕ, zero, suc, if◌then◌else◌, List, [], ◌∷◌, map, reverse}
 use Rattle.frames.specs.declared.vtype.VType.{VType}
 use Rattle.frames.specs.VerificationType.{VerificationType, type_of, top}
 use Rattle.frames.specs.Slots.{is_wide}
@@ -14,11 +14,6 @@ stack_of types = reverse (map type_of types)
 
 abbrev pub locals_of : List VType → List VerificationType
 locals_of types = map type_of types
-
--- the types that are pushed
-abbrev pub pushed_types : Option VType → List VerificationType
-pushed_types None = []
-pushed_types (Some t) = type_of t ∷ []
 
 abbrev pub expected_view : RawExpectedType → ExpectedType
 expected_view (Number kind) = number kind

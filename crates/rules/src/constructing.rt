@@ -1,26 +1,14 @@
-//! Calls of constructors by `invokespecial`.
-ghost use Rattle.std.specs.Prelude.{◌≡◌, ℕ, [], option_map};
+//! On which objects a constructor may be called.
+ghost use Rattle.std.specs.Prelude.{◌≡◌, option_map};
 ghost use Rattle.classfile.specs.Methods.{is_name};
-ghost use Rattle.pool.specs.ConstantViews.{method_constant_view};
 ghost use Rattle.frames.specs.VerificationType.{type_of};
-ghost use Rattle.rules.specs.TypingRules.{arguments_on, constructs};
 ghost use Rattle.rules.specs.Table.{class_made_at};
-ghost use Rattle.rules.specs.After.{after, class_after};
-ghost use Rattle.rules.specs.Rules.{conditions, may_construct};
+ghost use Rattle.rules.specs.Rules.{may_construct};
 ghost use Rattle.rules.specs.Bodies.{method_view};
-ghost use Rattle.rules.specs.Held.{held};
-ghost use Rattle.rules.specs.Outcomes.{Done};
 
-use crate::calls::arguments_on;
 use crate::declaring_class::{class_named, own_class, superclass};
-use crate::families::settle;
-use crate::operands::take;
-use crate::reason::Reason;
-use crate::working::Working;
 use classfile::CodeMethod;
-use frames::{Starts, VType, is_own};
-use hierarchy::{Answer, Classes};
-use pool::MethodConstant;
+use frames::{Starts, VType};
 
 /// The class that the `new` at an offset makes an object of, if there is one.
 fn class_made_at<'a, S: Starts>(
@@ -69,48 +57,5 @@ pub fn may_construct<S: Starts>(
         | VType::Null
         | VType::Class(_)
         | VType::Array { .. } => false,
-    }
-}
-
-/// The class that the object is of once the constructor has returned.
-fn class_after<'a>(method: &CodeMethod<'_, 'a>, name: &'a [u8], object: &VType<'_>) -> &'a [u8]
-    ensures { result.now ≡ class_after (method_view method.now) name.now (type_of object.now) }
-{
-    match *object {
-        VType::UninitThis => own_class(method),
-        _ => name,
-    }
-}
-
-/// A constructor of the class of this name, with its arguments on the object.
-pub fn constructs<'a, S: Starts, C: Classes>(
-    method: &CodeMethod<'_, 'a>,
-    called: &MethodConstant<'a>,
-    name: &'a [u8],
-    starts: &S,
-    frame: &mut Working<'a>,
-    classes: &C,
-) -> Result<(), Reason<'a>>
-    requires code { S.code starts.now ≡ (method_view method.now).code }
-    ensures { (at : ℕ) → let m = method_view method.now in let f = held frame.old in
-        let p = constructs name.now (arguments_on (method_constant_view called.now).type.params []) in
-        Done (conditions (C.content classes.now) m at p f) (after m at p f) (held frame.new) result }
-{
-    let expected_types = arguments_on(frame.alloc, &called.method_type.params, None)?;
-    let Some(answer) = take(&expected_types, frame, classes) else {
-        return Err(Reason::MissingOperand);
-    };
-    let Some(object) = frame.pop() else {
-        return Err(Reason::MissingOperand);
-    };
-    if !may_construct(method, starts, name, &object) {
-        return Err(Reason::WrongOperand);
-    }
-    match answer {
-        Answer::No => Err(Reason::WrongOperand),
-        _ => {
-            frame.initialize(&object, class_after(method, name, &object));
-            settle(method, answer, None, frame)
-        }
     }
 }

@@ -14,17 +14,16 @@ ghost use Rattle.rules.specs.Naming.{is_own};
 ghost use Rattle.rules.specs.Views.{expected_view};
 ghost use Rattle.rules.specs.ExpectedTypes.{expected_types, of_local, of_nothing, of_operands, of_units, types_view};
 
-use crate::arrays::{object_array, sizes};
 use crate::calls::{
-    arguments_on, is_init, may_be_called, may_invoke_interface, may_invoke_static,
-    may_invoke_virtual,
+    is_init, may_be_called, may_call_special, may_construct_by, may_invoke_interface,
+    may_invoke_static, may_invoke_virtual,
 };
 use crate::declaring_class::own_class;
-use crate::expected::{ExpectedType, expected_of, throwable};
-use crate::families::{number_of_result, reference_of_result};
-use crate::fields::target_of;
+use crate::expected::{
+    ExpectedType, arguments_on, expected_of, object_array, sizes, target_of, throwable,
+};
 use crate::naming::Named;
-use crate::special_calls::{may_call_special, may_construct_by};
+use crate::results::{number_of_result, reference_of_result};
 use crate::stacks::units_taken;
 use classfile::CodeMethod;
 use insn::{Act, Kind, NumericOperator, StackOperator, computed_as};

@@ -1,19 +1,14 @@
-//! Whether a type meets an expected type, and how operands are taken off the stack.
-ghost use Rattle.std.specs.Prelude.{◌≡◌, List, true, map, MatchOption};
-ghost use Rattle.hierarchy.specs.Class.{ClassFact};
+//! Whether a type meets an expected type.
+ghost use Rattle.std.specs.Prelude.{◌≡◌, true};
 ghost use Rattle.hierarchy.specs.Answer.{outcome_of, yes_if};
-ghost use Rattle.rules.specs.TypingRules.{number};
 ghost use Rattle.frames.specs.VerificationType.{type_of};
-ghost use Rattle.rules.specs.Rules.{accepts, is_array, is_array_for, is_reference, is_short, own_or_answer};
-ghost use Rattle.rules.specs.Outcomes.{TookOff};
-ghost use Rattle.rules.specs.Held.{held};
+ghost use Rattle.rules.specs.Rules.{accepts, is_array, is_array_for, is_reference, own_or_answer};
 ghost use Rattle.rules.specs.Views.{expected_view};
 
-use crate::expected::{Expected, ExpectedType};
-use crate::working::Working;
-use frames::{VType, assignable, both, number_type, reference_to};
+use crate::expected::ExpectedType;
+use frames::{VType, assignable, number_type, reference_to};
 use hierarchy::{Answer, Classes};
-use insn::{Kind, takes_array};
+use insn::takes_array;
 use names::{Base, Primitive};
 
 /// Whether a type is that of a reference, initialized or not.
@@ -69,24 +64,6 @@ fn is_array_for(primitive: Primitive, t: &VType<'_>) -> bool
     }
 }
 
-/// Whether a type is that of a number of the kind.
-pub fn is_number(kind: Kind, t: &VType<'_>) -> bool
-    ensures { (classes : List ClassFact) → accepts classes (number kind) (type_of t.now) ≡ yes_if result }
-{
-    match *t {
-        VType::Int => kind == Kind::Int,
-        VType::Float => kind == Kind::Float,
-        VType::Long => kind == Kind::Long,
-        VType::Double => kind == Kind::Double,
-        VType::Top
-        | VType::Null
-        | VType::Class(_)
-        | VType::Array { .. }
-        | VType::UninitThis
-        | VType::Uninit(_) => false,
-    }
-}
-
 /// Whether a type is that of the own object that is not initialized, or is assignable to a class.
 fn own_or_answer<'a, C: Classes>(name: &'a [u8], t: &VType<'a>, classes: &C) -> Answer<'a>
     ensures { outcome_of result ≡ own_or_answer (C.content classes.now) name.now (type_of t.now) }
@@ -109,25 +86,4 @@ pub fn accepts<'a, C: Classes>(expected: ExpectedType<'a>, t: &VType<'a>, classe
         ExpectedType::ArrayFor(primitive) => Answer::yes_if(is_array_for(primitive, t)),
         ExpectedType::OwnOr(name) => own_or_answer(name, t, classes),
     }
-}
-
-/// Takes operands of the expected types off the stack, the top one first. None where there are too few items; then
-/// nothing is said of the items that are left.
-pub fn take<'a, A: Expected<'a>, C: Classes>(
-    asked: &[A],
-    frame: &mut Working<'a>,
-    classes: &C,
-) -> Option<Answer<'a>>
-    ensures { let expected_types = map A.asked asked.now in
-        MatchOption result (is_short expected_types (held frame.old).stack ≡ true)
-        (λ a. TookOff (C.content classes.now) expected_types (held frame.old) (outcome_of a) (held frame.new)) }
-{
-    let mut so_far = Answer::Yes;
-    for ask in asked {
-        match frame.pop() {
-            None => return None,
-            Some(t) => so_far = both(so_far, ask.meets(&t, classes)),
-        }
-    }
-    Some(so_far)
 }

@@ -5,7 +5,7 @@ use Rattle.method_frames.specs.NumberedFrames.{NumberedFrames}
 use Rattle.rules.specs.After.{stored_type}
 use Rattle.rules.specs.Bodies.{method_view}
 use Rattle.rules.specs.Rules.{is_outside}
-use Rattle.rules.specs.Working.{with_locals}
+use Rattle.rules.specs.After.{with_locals}
 use Rattle.rules.proofs.Settling.{store_off_out, store_off_done, is_less, not_less, not_no}
 use Rattle.numbered_rules.specs.Expected.{accepts_by}
 use Rattle.numbered_rules.specs.Held.{held}

@@ -1,0 +1,241 @@
+//! What instructions name, the ways that they go, the first operand that a frame lacks, and reasons together.
+use crate::making::{B, CLONING, CONSTRUCTING, cloneable, frame, hasher};
+use classfile::{ClassFile, CodeMethod, Formed, decode, form_check};
+use format_calls::making::OUT_OF_MEMORY;
+use frames::{CodeStarts, VType};
+use hierarchy::{Answer, Classes, Rows};
+use insn::{Act, Branches, Kind, StackOperator};
+use layout::MAX_CODE_BYTES;
+use names::{Base, FieldType, Primitive};
+use rules::{
+    ClassConstants, ExpectedTypes, Reason, Unmet, branches_by, check_object, first_reason,
+    first_unmet, goes_on, is_constructor, is_plain, number_of_result, own_class, special_index,
+    together, typing_rules_go_as_acts, units_taken, used_by,
+};
+use std::alloc::{AllocError, Global};
+use std::test::*;
+
+/// Something that is asked in the first method of a class.
+#[derive(Clone, Copy)]
+enum Asked<'a> {
+    /// Whether a frame with this type on the stack lacks the one operand that a call of `clone` takes.
+    Lacks(VType<'a>),
+    /// Whether a call of `clone` uses it on the object on top of the stack.
+    Uses,
+    /// Whether the constant of a constructor is that of one.
+    Constructs,
+    /// Whether the constant of a constructor is no field of the class itself, and asks for no bootstrap method.
+    NamesMethod,
+    /// Whether the class is K.
+    IsOfK,
+}
+
+type Judged = Result<bool, AllocError>;
+
+/// A call of `clone`, and of the constructor of Object, by their constants in the class files.
+const CLONE: Act<'static> = Act::InvokeVirtual { index: 11 };
+
+const CONSTRUCT: Act<'static> = Act::InvokeSpecial { index: 9 };
+
+/// Whether the constant of the constructor is no field of the class itself, and asks for no bootstrap method.
+fn names_method<'a, C: Classes>(
+    method: &CodeMethod<'_, 'a>,
+    mut constants: ClassConstants<'_, '_, 'a, C>,
+) -> Judged {
+    let own = constants.sets_own(method, 9)?;
+    Ok(!own && constants.members.is_bootstrapped(method, 9)?)
+}
+
+/// Whether `invokespecial` of the constructor of Object calls a constructor.
+fn constructs<'a, C: Classes>(
+    method: &CodeMethod<'_, 'a>,
+    mut constants: ClassConstants<'_, '_, 'a, C>,
+) -> Judged {
+    let named = constants.named(method, &CONSTRUCT)?;
+    match named.method() {
+        Some(called) => Ok(is_constructor(called)),
+        None => Ok(false),
+    }
+}
+
+/// Whether a call of `clone` uses it on the object on top of the stack.
+fn uses<'a, C: Classes>(
+    method: &CodeMethod<'_, 'a>,
+    mut constants: ClassConstants<'_, '_, 'a, C>,
+) -> Judged {
+    let named = constants.named(method, &CLONE)?;
+    match used_by(method, &CLONE, &named) {
+        Some(member) => Ok(member.index == 11 && member.above == 0),
+        None => Ok(false),
+    }
+}
+
+/// Whether the frame with this type on the stack lacks the one operand that a call of `clone` of Object takes.
+fn lacks<'a, C: Classes>(
+    alloc: Global,
+    method: &CodeMethod<'_, 'a>,
+    classes: &C,
+    object: VType<'a>,
+) -> Judged {
+    let mut constants = ClassConstants::new(alloc, method.class, classes);
+    let named = constants.named(method, &CLONE)?;
+    let types = ExpectedTypes::of(alloc, method, &CLONE, &named)?;
+    is_unmet(alloc, method, classes, &types, object)
+}
+
+/// Whether the first of these expected types that the frame does not meet is that of the one operand.
+fn is_unmet<'a, C: Classes>(
+    alloc: Global,
+    method: &CodeMethod<'_, 'a>,
+    classes: &C,
+    types: &ExpectedTypes<'a>,
+    object: VType<'a>,
+) -> Judged {
+    let before = frame(alloc, &[VType::Top, VType::Top], &[object], false)?;
+    if method.code.code.len() > MAX_CODE_BYTES {
+        return Ok(false);
+    }
+    let Ok(starts) = CodeStarts::new(alloc, method.code.code) else {
+        return Err(AllocError);
+    };
+    match first_unmet(method, &starts, types, &before, classes) {
+        Some(Unmet::Operand { wrong, count }) => Ok(wrong.place == 1 && count == 1),
+        _ => Ok(false),
+    }
+}
+
+fn ask_in<'a, C: Classes>(
+    alloc: Global,
+    method: &CodeMethod<'_, 'a>,
+    classes: &C,
+    asked: Asked<'a>,
+) -> Judged {
+    let constants = ClassConstants::new(alloc, method.class, classes);
+    match asked {
+        Asked::Lacks(object) => lacks(alloc, method, classes, object),
+        Asked::Uses => uses(method, constants),
+        Asked::Constructs => constructs(method, constants),
+        Asked::NamesMethod => names_method(method, constants),
+        Asked::IsOfK => Ok(own_class(method) == b"K".as_slice()),
+    }
+}
+
+/// The answer in the first method of a class, where these are the classes.
+fn ask_among<'a, C: Classes>(
+    alloc: Global,
+    formed: &Formed<'_, 'a>,
+    classes: &C,
+    asked: Asked<'a>,
+) -> Result<bool, u8> {
+    if formed.class().methods.is_empty() {
+        return Err(0);
+    }
+    let Some(method) = formed.method(0) else {
+        return Err(0);
+    };
+    match ask_in(alloc, &method, classes, asked) {
+        Ok(answer) => Ok(answer),
+        Err(_) => Err(OUT_OF_MEMORY),
+    }
+}
+
+/// The answer where Object has the method `clone`, which is protected, and K and A are below it.
+fn ask_formed<'a>(alloc: Global, formed: &Formed<'_, 'a>, asked: Asked<'a>) -> Result<bool, u8> {
+    let Ok(list) = cloneable(alloc) else {
+        return Err(OUT_OF_MEMORY);
+    };
+    match Rows::new(alloc, &list, hasher()) {
+        Ok(classes) => ask_among(alloc, formed, &classes, asked),
+        Err(_) => Err(OUT_OF_MEMORY),
+    }
+}
+
+fn ask_class<'a>(alloc: Global, class: &ClassFile<'a>, asked: Asked<'a>) -> Result<bool, u8> {
+    match form_check(alloc, class) {
+        Ok(formed) => ask_formed(alloc, &formed, asked),
+        Err(_) => Err(OUT_OF_MEMORY),
+    }
+}
+
+/// The answer in `<init>` of the class file K.
+fn ask<'a>(alloc: Global, bytes: &'a [u8], asked: Asked<'a>) -> Result<bool, u8> {
+    match decode(alloc, bytes) {
+        Ok(class) => ask_class(alloc, &class, asked),
+        Err(_) => Err(OUT_OF_MEMORY),
+    }
+}
+
+#[test]
+fn named_methods(rt: HostRuntime) {
+    let alloc = rt.alloc();
+    assert!(rt; ask(alloc, &CLONING, Asked::Uses) == Ok(true));
+    assert!(rt; ask(alloc, &CONSTRUCTING, Asked::Constructs) == Ok(true));
+    assert!(rt; ask(alloc, &CONSTRUCTING, Asked::NamesMethod) == Ok(true));
+    assert!(rt; ask(alloc, &CONSTRUCTING, Asked::IsOfK) == Ok(true));
+    assert!(rt; special_index(&CONSTRUCT) == Some(9));
+    assert!(rt; special_index(&CLONE).is_none());
+}
+
+/// The ways of a `goto`, a `store` and an `invokespecial`.
+#[test]
+fn ways_of_acts(rt: HostRuntime) {
+    let (goto, call) = (Act::Goto { offset: 3 }, Act::InvokeSpecial { index: 9 });
+    let store = Act::StoreReference { local: 1 };
+    typing_rules_go_as_acts();
+    assert!(rt; !goes_on(&goto) && goes_on(&call) && goes_on(&store));
+    assert!(rt; matches!(branches_by(&goto), Branches::One(3)));
+    assert!(rt; matches!(branches_by(&call), Branches::Nowhere));
+}
+
+/// A `new` is not plain, since what the locals hold of its last object is forgotten.
+#[test]
+fn plain_instructions(rt: HostRuntime) {
+    assert!(rt;
+        is_plain(&Act::Store {
+            kind: Kind::Int,
+            local: 1
+        })
+    );
+    assert!(rt; !is_plain(&Act::New { index: 1 }));
+    assert!(rt; !is_plain(&Act::Goto { offset: 0 }));
+}
+
+/// A byte is computed as an int; an array is no number. `dup2` takes two units.
+#[test]
+fn results_and_units(rt: HostRuntime) {
+    let (base, dims) = (Base::Primitive(Primitive::Byte), 0);
+    assert!(rt; number_of_result(Some(FieldType { dims, base })) == Some(Kind::Int));
+    assert!(rt; number_of_result(Some(FieldType { dims: 1, base })).is_none());
+    assert!(rt; units_taken(StackOperator::Dup2.forms()) == 2);
+}
+
+/// Whether an object of a missing class may be the operand is not known, so nothing is found.
+#[test]
+fn first_operand_that_is_not_met(rt: HostRuntime) {
+    let alloc = rt.alloc();
+    assert!(rt; ask(alloc, &CLONING, Asked::Lacks(VType::Int)) == Ok(true));
+    assert!(rt; ask(alloc, &CLONING, Asked::Lacks(VType::Class(b"K"))) == Ok(false));
+    assert!(rt; ask(alloc, &CLONING, Asked::Lacks(B)) == Ok(false));
+}
+
+#[test]
+fn lesser_reasons(rt: HostRuntime) {
+    let (one, other) = (Reason::WrongOperand, Reason::ProtectedMember);
+    assert!(rt; matches!(first_reason(one, Ok(())), Reason::WrongOperand));
+    assert!(rt; matches!(first_reason(other, Err(one)), Reason::WrongOperand));
+    assert!(rt; matches!(first_reason(one, Err(other)), Reason::WrongOperand));
+    assert!(rt; matches!(together(Ok(()), Err(other)), Err(Reason::ProtectedMember)));
+    assert!(rt; together(Ok(()), Ok(())).is_ok());
+    assert!(rt; check_object(Answer::Yes).is_ok());
+    assert!(rt; matches!(check_object(Answer::No), Err(Reason::ProtectedMember)));
+    assert!(rt; matches!(check_object(Answer::Missing(b"B")), Err(Reason::ClassMissing(_))));
+}
+
+/// Where memory runs out the reason is 1.
+#[test]
+fn memory_runs_out_for_members(rt: HostRuntime) {
+    let told = ask(rt.alloc(), &CLONING, Asked::Lacks(VType::Int));
+    assert!(rt; told == Ok(true) || told == Err(OUT_OF_MEMORY));
+    let told = ask(rt.alloc(), &CONSTRUCTING, Asked::NamesMethod);
+    assert!(rt; told == Ok(true) || told == Err(OUT_OF_MEMORY));
+}

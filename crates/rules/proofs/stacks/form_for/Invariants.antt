@@ -1,8 +1,0 @@
-use Rattle.std.proofs.Common.{◌≡◌, drop, map}
-use Rattle.insn.specs.Views.{stack_form_view}
-use Rattle.rules.specs.After.{form_for}
-use Rattle.rules.specs.Views.{stack_of}
-use Rattle.rules.proofs.stacks.form_for.Given as goal
-
-abbrev pub invariant-loop-form : goal.invariant-loop-form
-invariant-loop-form l = form_for (map stack_form_view l.forms) (stack_of l.stack) ≡ form_for (map stack_form_view (drop l.form-index l.forms)) (stack_of l.stack)
