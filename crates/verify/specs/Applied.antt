@@ -6,8 +6,8 @@ use Rattle.insn.specs.Meanings.{Act}
 use Rattle.insn.specs.Branching.{targets_of}
 use Rattle.frames.specs.FrameFact.{FrameFact, frame_of}
 use Rattle.frames.specs.Conditions.{Conditions, least}
-use Rattle.rules.specs.declared.applying.After.{After}
-use Rattle.rules.specs.declared.applying.Refusal.{Refusal}
+use Rattle.verify.specs.declared.applying.After.{After}
+use Rattle.verify.specs.declared.applying.Refusal.{Refusal}
 use Rattle.rules.specs.declared.reason.Reason.{Reason}
 use Rattle.rules.specs.declared.reason.Reason.TheVariants.{OutOfMemory, ClassMissing}
 use Rattle.rules.specs.TypingRules.{TypingRule, falls, targets}
