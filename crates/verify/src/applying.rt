@@ -1,5 +1,5 @@
 //! One instruction, judged by its rule on a copy of a frame.
-ghost use Rattle.std.specs.Prelude.{◌≡◌, ◌++◌, ◌<◌, ◌≤◌, ℕ, List, length, map, reverse, slice_index, MatchResult, OnOk, IfOk};
+ghost use Rattle.std.specs.Prelude.{◌≡◌, ◌++◌, ◌<◌, ℕ, length, map, reverse, slice_index, OnOk, IfOk};
 ghost use Rattle.classfile.specs.Methods.{Method};
 ghost use Rattle.classfile.specs.Values.{Class};
 ghost use Rattle.classfile.specs.Views.{class_view};
@@ -8,9 +8,8 @@ ghost use Rattle.insn.specs.Views.{act_view, view};
 ghost use Rattle.frames.specs.FrameFact.{FrameFact, frame_of};
 ghost use Rattle.frames.specs.VerificationType.{type_of};
 ghost use Rattle.frames.specs.MarkedCode.{code_in};
-ghost use Rattle.type_numbers.specs.Numbers.{Numbering, Extends, IsGiven};
-ghost use Rattle.type_numbers.specs.Decoding.{types_by};
-ghost use Rattle.method_frames.specs.NumberedFrames.{NumberedFrames};
+ghost use Rattle.type_numbers.specs.Numbers.{Extends, IsGiven};
+ghost use Rattle.type_numbers.specs.MethodNumbers.{AreNumbers};
 ghost use Rattle.numbered_rules.specs.Held.{held, IsRunning};
 ghost use Rattle.numbered_rules.specs.Running.{AreRuleNumbers};
 ghost use Rattle.rules.specs.declared.reason.Reason.TheVariants.{OutOfMemory};
@@ -20,7 +19,6 @@ ghost use Rattle.rules.specs.Rules.{constructs_own};
 ghost use Rattle.rules.specs.Table.{typing_rule};
 ghost use Rattle.verify.specs.Applied.{Applied, Leaves};
 ghost use Rattle.verify.specs.private.Judged.{IsNumbered, JudgesRule};
-ghost use Rattle.verify.specs.private.pass.ClassTypes.{AreClassTypes};
 
 use crate::environment::Env;
 use crate::pass::class_types::ClassTypes;
@@ -77,8 +75,7 @@ fn numbers_of<'a, C: Classes>(
     types: &mut TypeNumbers<'_, 'a, C>,
 ) -> Result<Vec<u32>, AllocError>
     ensures kept { Extends types.old types.new }
-    ensures numbers { IfOk result (λ v. types_by types.new v.items ≡ map type_of vtypes.now) }
-    ensures given { IfOk result (λ v. (i : ℕ) → i < length v.items → IsGiven types.new (slice_index v.items i)) }
+    ensures numbers { IfOk result (λ v. AreNumbers types.new v.items (map type_of vtypes.now)) }
 {
     let mut numbers = Vec::with_capacity(alloc, vtypes.len())?;
     for vtype in vtypes {

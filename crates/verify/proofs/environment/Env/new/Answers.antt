@@ -12,6 +12,8 @@ use Rattle.insn.specs.Offsets.{acts}
 use Rattle.insn.specs.Readings.{or_none, instructions_in}
 use Rattle.insn.specs.Views.{views}
 use Rattle.insn.proofs.Readings.{only_reading}
+use Rattle.classfile.specs.WellFormed.{WellFormed}
+use Rattle.verify.proofs.MethodCode.{little_code}
 use Rattle.verify.proofs.environment.Env.new.Goals as goal
 
 pub returns-clause-method : goal.returns-clause-method
@@ -41,4 +43,8 @@ invariant_of-result g c =
     let xs = views c.args.list.now in
     let coded : code_at (class_view c.args.formed.now.class.now) c.args.number ≡ Some (code_view m.code.now) =
     sym c.method.ensures.code ∙ ap (option_map (λ k. code_view k.code.now)) c.unwrap-method.ensures in
-    record { listed = sym (ap or_none (only_reading m.code.now.code.now (Ok xs) (c.requires.listed (code_view m.code.now) coded))) }
+    record {
+      read = only_reading m.code.now.code.now (Ok xs) (c.requires.listed (code_view m.code.now) coded);
+      few =
+          little_code (class_view c.args.formed.now.class.now) (subst (λ k. WellFormed (class_view k)) c.class.ensures.same c.class.ensures.formed) c.args.number (code_view m.code.now) coded;
+    }
