@@ -21,7 +21,7 @@ ghost use Rattle.verify.specs.Applied.{Applied, Leaves};
 ghost use Rattle.verify.specs.private.Judged.{IsNumbered, JudgesRule};
 
 use crate::environment::Env;
-use crate::pass::class_types::ClassTypes;
+use crate::pass::ClassTypes;
 use crate::pass::members::{check_member, constructs_own as calls_on_own, facts_of};
 use classfile::ClassFile;
 use frames::{CodeStarts, Frame, VType};
@@ -152,7 +152,7 @@ fn judge<'a, C: Classes>(
         JudgesRule frames.old.types.classes m at a (typing_rule m a) (held frames.old) (held frames.new) result }
     ensures rest { IsRunning frames.old frames.new }
 {
-    let own = constructs_own(body.method, act, constants, frames)?;
+    let own = calls_on_own(body.method, act, constants, frames)?;
     let facts = facts_of(body.method, act, constants)?;
     let used = check_member(body.method, act, body.numbers.class, constants, frames);
     if let Err(reason) = run(body, at, act, facts, frames) {
