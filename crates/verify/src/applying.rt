@@ -58,9 +58,9 @@ pub struct Refusal<'a> {
 
 /// Memory ran out.
 impl<'a> From<AllocError> for Refusal<'a> {
-    fn from(_: AllocError) -> Refusal<'a>
-        ensures { result.reason ≡ OutOfMemory }
-    {
+    ghost from_gives = { λ _ e. e.reason ≡ OutOfMemory };
+
+    fn from(_: AllocError) -> Refusal<'a> {
         Refusal {
             reason: Reason::OutOfMemory,
             own: false,
@@ -130,8 +130,10 @@ fn starts_of<'c, C: Classes>(
 {
     match CodeStarts::new(alloc, env.method.code.code) {
         Ok(starts) => Ok(starts),
-        Err(CodeFault::OutOfMemory) => Err(AllocError),
-        Err(_) => unreachable!(),
+        Err(fault) => match fault {
+            CodeFault::OutOfMemory => Err(AllocError),
+            _ => unreachable!(),
+        },
     }
 }
 

@@ -1,0 +1,4 @@
+use Rattle.verify.proofs.applying.number.Goals as goal
+
+pub returns-clause-numbers : goal.returns-clause-numbers
+returns-clause-numbers g c = ?
