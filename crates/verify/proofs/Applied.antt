@@ -5,7 +5,14 @@ use Rattle.std.proofs.lemmas.List.{append-nil, drop_all, drop_more, length-take-
 use Rattle.classfile.specs.Methods.{Method}
 use Rattle.hierarchy.specs.Class.{ClassFact}
 use Rattle.insn.specs.Meanings.{Act}
-use Rattle.frames.specs.FrameFact.{FrameFact}
+use Rattle.frames.specs.FrameFact.{FrameFact, frame_of}
+use Rattle.frames.specs.VerificationType.{type_of}
+use Rattle.frames.specs.declared.frame.Frame.{Frame}
+use Rattle.type_numbers.specs.Numbers.{Numbering}
+use Rattle.type_numbers.specs.Decoding.{type_by, types_by}
+use Rattle.type_numbers.specs.MethodNumbers.{AreNumbers}
+use Rattle.method_frames.specs.NumberedFrames.{frame_by}
+use Rattle.verify.proofs.numbered.ClassTyped.{numbers_read}
 use Rattle.rules.specs.declared.reason.Reason.{Reason}
 use Rattle.rules.specs.declared.reason.Reason.TheVariants.{OutOfMemory, ClassMissing}
 use Rattle.rules.specs.After.{after}
@@ -78,7 +85,15 @@ one_pushed xs ys i lt =
     let n = get_or xs i 0 in
     sym (ap (λ zs. reverse zs ++ ys) (take_more xs i 0 lt) ∙ ap (λ zs. zs ++ ys) (reverse-append (take i xs) (n ∷ [])))
 
-pub reversed : {A B : Type 0} (f : A → B) (xs : List A) → map f (reverse xs) ≡ reverse (map f xs)
+reversed : {A B : Type 0} (f : A → B) (xs : List A) → map f (reverse xs) ≡ reverse (map f xs)
 reversed f [] = refl
 reversed f (x ∷ xs) =
     ap (map f) (reverse-append (x ∷ []) xs) ∙ map-append f (reverse xs) (x ∷ []) ∙ ap (λ ys. ys ++ f x ∷ []) (reversed f xs) ∙ sym (reverse-append (f x ∷ []) (map f xs))
+
+-- the frame that these are the numbers of
+pub frame_read : (s : Numbering) (f : Frame) (locals stack : List ℕ) → AreNumbers s locals (map type_of f.locals.items) → AreNumbers s stack (map type_of f.stack.items)
+    → frame_by s (record { locals = locals; stack = reverse stack ++ []; flag = f.flag }) ≡ frame_of f
+frame_read s f locals stack l k =
+    ap (λ ts. let g : FrameFact = record { locals = ts; stack = types_by s (reverse stack ++ []); flag = f.flag } in g) (numbers_read s locals (map type_of f.locals.items) l)
+    ∙ ap (λ ts. let g : FrameFact = record { locals = map type_of f.locals.items; stack = ts; flag = f.flag } in g)
+    (ap (types_by s) (append-nil (reverse stack)) ∙ reversed (type_by s) stack ∙ ap (λ ts. reverse ts) (numbers_read s stack (map type_of f.stack.items) k))

@@ -3,7 +3,8 @@ ghost use Rattle.std.specs.Prelude.{◌≡◌, ◌++◌, ◌<◌, ℕ, length, m
 ghost use Rattle.classfile.specs.Methods.{Method};
 ghost use Rattle.classfile.specs.Values.{Class};
 ghost use Rattle.classfile.specs.Views.{class_view};
-ghost use Rattle.insn.specs.Meanings.{Act, act};
+ghost use Rattle.insn.specs.Meanings as meanings;
+ghost use Rattle.insn.specs.Meanings.{act};
 ghost use Rattle.insn.specs.Views.{act_view, view};
 ghost use Rattle.frames.specs.FrameFact.{FrameFact, frame_of};
 ghost use Rattle.frames.specs.VerificationType.{type_of};
@@ -224,7 +225,7 @@ fn leave<'a, C: Classes>(
     own: bool,
     frames: &MethodFrames<'_, '_, 'a, C>,
 ) -> Result<After<'a>, AllocError>
-    ensures { let a = act (view insn.now) in (m : Method Act) (f : FrameFact) → held frames.now ≡ after m at (typing_rule m a) f
+    ensures { let a = act (view insn.now) in (m : Method meanings.Act) (f : FrameFact) → held frames.now ≡ after m at (typing_rule m a) f
         → own ≡ constructs_own (typing_rule m a) f → IfOk result (Leaves m at (typing_rule m a) f) }
 {
     Ok(After {
