@@ -24,7 +24,7 @@ ghost use Rattle.verify.specs.private.Judged.{IsNumbered, JudgesRule};
 use crate::environment::Env;
 use crate::pass::ClassTypes;
 use crate::pass::members::{check_member, constructs_own as calls_on_own, facts_of};
-use classfile::ClassFile;
+use classfile::{ClassFile, CodeAttr};
 use frames::{CodeStarts, Frame, VType};
 use hierarchy::Classes;
 use insn::{Act, BranchTargets, CodeFault, Insn, act};
@@ -201,17 +201,16 @@ fn begin<'t, 'c, 'a, C: Classes>(
     alloc: Global,
     frame: &Frame<'a>,
     numbered: &Numbered,
-    max_stack: u16,
+    code: &CodeAttr<'a>,
     types: &'t TypeNumbers<'c, 'a, C>,
 ) -> Result<MethodFrames<'t, 'c, 'a, C>, AllocError>
-    requires few { length frame.now.locals.items < 65536 }
+    requires locals { length frame.now.locals.items ≡ code.now.max_locals }
     requires numbered { (c : Class) × IsNumbered types.now c frame.now numbered.now }
     ensures types { IfOk result (λ x. x.types ≡ types.now) }
     ensures running { IfOk result (λ x. held x ≡ frame_of frame.now) }
-    ensures size { IfOk result (λ x. length x.running.locals ≡ length frame.now.locals.items) }
+    ensures size { IfOk result (λ x. length x.running.locals ≡ code.now.max_locals) }
 {
-    let max_locals = numbered.locals.len() as u16;
-    let mut frames = MethodFrames::new(alloc, types, max_locals, max_stack, frame.flag)?;
+    let mut frames = MethodFrames::new(alloc, types, code.max_locals, code.max_stack, frame.flag)?;
     set_locals(&numbered.locals, &mut frames)?;
     push_all(&numbered.stack, &mut frames)?;
     Ok(frames)
@@ -264,7 +263,7 @@ pub fn apply<'a, C: Classes>(
         starts: &starts,
         numbers: numbered.class.rule_numbers(method),
     };
-    let mut frames = begin(alloc, frame, &numbered, method.code.max_stack, &types)?;
+    let mut frames = begin(alloc, frame, &numbered, method.code, &types)?;
     let mut constants = ClassConstants::new(alloc, method.class, env.classes);
     let own = judge(&body, at, &act(insn), &mut constants, &mut frames)?;
     Ok(leave(alloc, at, insn, own, &frames)?)

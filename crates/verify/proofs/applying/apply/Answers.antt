@@ -1,4 +1,4 @@
-use Rattle.std.proofs.Common.{◌≡◌, ◌∙◌, Result, Ok, Err, length, sym, ap, subst, arith}
+use Rattle.std.proofs.Common.{◌≡◌, ◌∙◌, Result, Ok, Err, sym, ap, subst}
 use Rattle.std.proofs.lemmas.Result.{err_from_is_err_and}
 use Rattle.classfile.specs.Views.{class_view}
 use Rattle.insn.specs.Meanings.{act}
@@ -37,9 +37,6 @@ returns-in_err-starts g c =
     let e = err_from_is_err_and c.from_residual-in_err-starts.result c.from_residual-in_err-starts.ensures.1 in
     subst (λ (r : Result After Refusal). Applied classes m c.args.at a p f r) (sym e.1) (stopped classes m c.args.at a p f f e.0 e.2)
 
-pub begin-requires-clause-few : goal.begin-requires-clause-few
-begin-requires-clause-few g c = omega (arith, c.requires)
-
 pub begin-requires-clause-numbered : goal.begin-requires-clause-numbered
 begin-requires-clause-numbered g c = (class_view c.args.env.now.method.class.now, c.in_ok-numbered.ensures.numbers)
 
@@ -61,7 +58,7 @@ judge-requires-clause-constants g c =
     c.new-constants.ensures ∙ ap (λ cs. let all : Surroundings = record { class = m.class.now; classes = cs } in all) (sym classes)
 
 pub judge-requires-clause-locals : goal.judge-requires-clause-locals
-judge-requires-clause-locals g c = c.in_ok-frames.ensures.size ∙ c.requires
+judge-requires-clause-locals g c = c.in_ok-frames.ensures.size
 
 pub judge-requires-clause-numbers : goal.judge-requires-clause-numbers
 judge-requires-clause-numbers g c =
@@ -79,7 +76,8 @@ returns-in_err-own g c =
     let e = err_from_is_err_and c.from_residual-in_err-own.result c.from_residual-in_err-own.ensures.1 in
     let now = held c.judge.new.frames in
     let judged = judged_as _ classes m c.args.at (act_view c.act.result) a (held c.in_ok-frames.frames) f now (Err c.in_err-own.field-0.0) same c.act.ensures c.in_ok-frames.ensures.running c.in_err-own.ensures.judged in
-    ?
+    subst (λ (r : Result After Refusal). Applied classes m c.args.at a p f r) (sym (e.1 ∙ ap (λ (x : Refusal). let r : Result After Refusal = Err x in r) e.2))
+    (refused classes m c.args.at a p f now c.in_err-own.field-0.0 judged)
 
 pub returns-in_err-leave : goal.returns-in_err-leave
 returns-in_err-leave g c =
@@ -101,7 +99,7 @@ returns g c =
     let same = ap (λ (s : Numbering). s.classes) c.in_ok-frames.ensures.types ∙ c.number.ensures.same ∙ c.new-types.ensures.classes in
     let now = held c.judge.new.frames in
     let judged = judged_as _ classes m c.args.at (act_view c.act.result) a (held c.in_ok-frames.frames) f now (Ok c.in_ok-own.own) same c.act.ensures c.in_ok-frames.ensures.running c.in_ok-own.ensures.judged in
-    applied classes m c.args.at a p f now c.in_ok-own.own c.in_ok-leave.field-0 judged (c.in_ok-leave.ensures m f judged.outcome.1.0 judged.outcome.1.1)
+    applied classes m c.args.at a p f now c.in_ok-own.own c.in_ok-leave.field-0 judged (c.in_ok-leave.ensures m f judged.outcome.1 judged.outcome.2)
 
 pub invariant_of-body : goal.invariant_of-body
 invariant_of-body g c = record { code = c.in_ok-starts.ensures }

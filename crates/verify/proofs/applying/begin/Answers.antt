@@ -1,5 +1,5 @@
-use Rattle.std.proofs.Common.{◌≡◌, ◌∙◌, ◌++◌, length, map, reverse, sym, ap, subst, arith}
-use Rattle.std.proofs.lemmas.List.{length-map}
+use Rattle.std.proofs.Common.{◌≡◌, ◌∙◌, ◌++◌, length, map, reverse, sym, ap, subst}
+use Rattle.std.proofs.lemmas.List.{length-map, length-replicate}
 use Rattle.frames.specs.VerificationType.{type_of}
 use Rattle.method_frames.specs.NumberedFrames.{NumberedFrames}
 use Rattle.numbered_rules.specs.Held.{held}
@@ -9,11 +9,13 @@ use Rattle.verify.proofs.Applied.{frame_read}
 use Rattle.verify.proofs.numbered.ClassTyped.{each_given}
 use Rattle.verify.proofs.applying.begin.Goals as goal
 
-pub overflow_cast-max_locals : goal.overflow_cast-max_locals
-overflow_cast-max_locals g c =
+pub set_locals-requires-clause-size : goal.set_locals-requires-clause-size
+set_locals-requires-clause-size g c =
     let f = c.args.frame.now in
-    let long = numbers_length c.args.types.now c.args.numbered.now.locals.items (map type_of f.locals.items) c.requires.numbered.1.locals in
-    omega (arith, long, length-map f.locals.items type_of, c.len-max_locals.ensures, c.requires.few)
+    let n = c.args.numbered.now in
+    ap length c.deref.ensures.value
+    ∙ numbers_length c.args.types.now n.locals.items (map type_of f.locals.items) c.requires.numbered.1.locals
+    ∙ length-map f.locals.items type_of ∙ c.requires.locals ∙ sym (ap (λ (y : NumberedFrames). length y.running.locals) c.in_ok-frames.ensures ∙ length-replicate c.args.code.now.max_locals 0)
 
 pub set_locals-requires-clause-given : goal.set_locals-requires-clause-given
 set_locals-requires-clause-given g c =
@@ -54,4 +56,4 @@ returns-clause-size g c =
     ∙ ap (λ (y : NumberedFrames). length y.running.locals) c.in_ok-set_locals.ensures
     ∙ ap length c.deref.ensures.value
     ∙ numbers_length c.args.types.now n.locals.items (map type_of f.locals.items) c.requires.numbered.1.locals
-    ∙ length-map f.locals.items type_of
+    ∙ length-map f.locals.items type_of ∙ c.requires.locals
