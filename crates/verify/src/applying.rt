@@ -168,6 +168,24 @@ fn judge<'a, C: Classes>(
     }
 }
 
+/// Judges an instruction as [`judge`] does, with constants that are looked up for it alone.
+fn judge_alone<'a, C: Classes>(
+    alloc: Global,
+    body: &Body<'_, 'a>,
+    at: u16,
+    act: &Act<'a>,
+    frames: &mut MethodFrames<'_, '_, 'a, C>,
+) -> Result<bool, Refusal<'a>>
+    requires locals { length frames.old.running.locals ≡ body.now.method.now.code.now.max_locals }
+    requires numbers { AreRuleNumbers frames.old.types (method_view body.now.method.now) body.now.numbers }
+    ensures { let m = method_view body.now.method.now in let a = act_view act.now in
+        JudgesRule frames.old.types.classes m at a (typing_rule m a) (held frames.old) (held frames.new) result }
+{
+    let classes = frames.types().classes();
+    let mut constants = ClassConstants::new(alloc, body.method.class, classes);
+    judge(body, at, act, &mut constants, frames)
+}
+
 /// A frame by numbers, with those of the types of its method's class.
 #[derive(Drop)]
 struct Numbered {
@@ -235,6 +253,34 @@ fn leave<'a, C: Classes>(
     })
 }
 
+/// Judges an instruction as [`apply`] does, in a frame whose types and those of the class have numbers.
+fn apply_numbered<'a, C: Classes>(
+    alloc: Global,
+    env: &Env<'_, '_, 'a, C>,
+    at: u16,
+    insn: &Insn<'a>,
+    frame: &Frame<'a>,
+    numbered: &Numbered,
+    types: &TypeNumbers<'_, 'a, C>,
+) -> Result<After<'a>, Refusal<'a>>
+    requires locals { length frame.now.locals.items ≡ env.now.method.code.now.max_locals }
+    requires numbered { IsNumbered types.now (class_view env.now.method.class.now) frame.now numbered.now }
+    ensures { let m = method_view env.now.method in
+        let a = act (view insn.now) in
+        Applied types.now.classes m at a (typing_rule m a) (frame_of frame.now) result }
+{
+    let method = &env.method;
+    let starts = starts_of(alloc, env)?;
+    let body = Body {
+        method,
+        starts: &starts,
+        numbers: numbered.class.rule_numbers(method),
+    };
+    let mut frames = begin(alloc, frame, numbered, method.code, types)?;
+    let own = judge_alone(alloc, &body, at, &act(insn), &mut frames)?;
+    Ok(leave(alloc, at, insn, own, &frames)?)
+}
+
 /// Judges the instruction at an offset by its rule (JVMS 4.10.1.9). The frame before it has max_locals locals.
 ///
 /// The instruction is refused with the least number that holds: one of its rule (60 to 66, 74, 76, 77, 90), or 77 or 82
@@ -254,17 +300,7 @@ pub fn apply<'a, C: Classes>(
         let a = act (view insn.now) in
         Applied (C.content env.now.classes.now) m at a (typing_rule m a) (frame_of frame.now) result }
 {
-    let method = &env.method;
     let mut types = TypeNumbers::new(alloc, env.classes);
-    let numbered = number(alloc, method.class, frame, &mut types)?;
-    let starts = starts_of(alloc, env)?;
-    let body = Body {
-        method,
-        starts: &starts,
-        numbers: numbered.class.rule_numbers(method),
-    };
-    let mut frames = begin(alloc, frame, &numbered, method.code, &types)?;
-    let mut constants = ClassConstants::new(alloc, method.class, env.classes);
-    let own = judge(&body, at, &act(insn), &mut constants, &mut frames)?;
-    Ok(leave(alloc, at, insn, own, &frames)?)
+    let numbered = number(alloc, env.method.class, frame, &mut types)?;
+    apply_numbered(alloc, env, at, insn, frame, &numbered, &types)
 }
