@@ -1,4 +1,5 @@
 pub mod safety
+pub mod Applied
 pub mod Declared
 pub mod Reasons
 pub mod Meeting

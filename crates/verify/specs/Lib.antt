@@ -1,3 +1,4 @@
+pub mod Applied
 pub mod InitialFrames
 pub mod TypeSafety
 pub mod Safety

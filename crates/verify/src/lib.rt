@@ -12,6 +12,8 @@
 //!   frames, by one walk once more over the code; `detail`: what is wrong there, by the reason; `difference_at`: how a
 //!   frame that leads to a target or a handler differs from the one that is declared there; `exceptions`: the entry of
 //!   the exception table that is at fault; `stack_maps`: the entry of the stack map for which it is refused.
+//! - `applying`: one instruction, judged by its rule on a copy of a frame; `environment`: the method, its instructions, and
+//!   the classes around it.
 //!
 //! Files:
 //!
@@ -34,9 +36,11 @@
 //! - `verified_walk`: walks of the machine through verified methods.
 #![tactic(auto)]
 
+mod applying;
 mod classes_in_play;
 mod detail;
 mod difference_at;
+mod environment;
 mod exceptions;
 mod explanation;
 mod files;
@@ -62,9 +66,11 @@ mod theorem;
 mod verdict;
 mod verified_walk;
 
+pub use applying::{After, Refusal, apply};
 pub use classes_in_play::{TogetherFault, verify_together, verify_together_under};
 pub use detail::Detail;
 pub use difference_at::DifferenceAt;
+pub use environment::Env;
 pub use explanation::Explained;
 pub use files::{FileFault, FileRead, class_file};
 pub use frames_at::FramesAt;

@@ -72,6 +72,7 @@ impl ClassTypes {
         types: &mut TypeNumbers<'_, 'a, C>,
     ) -> Result<ClassTypes, AllocError>
         ensures same { types.new.classes ≡ types.old.classes }
+        ensures kept { Extends types.old types.new }
         ensures given { IfOk result (AreClassTypes types.new (class_view class.now)) }
     {
         let numbers = ClassNumbers::new(class_name(class), superclass_name(class), types)?;

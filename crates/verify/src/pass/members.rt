@@ -157,6 +157,28 @@ fn calls_on_own<'a, C: Classes>(
     }
 }
 
+/// Whether an instruction calls a constructor on the own object, which is not initialized (JVMS 4.10.1.9,
+/// invokespecial). The only refusal: memory ran out.
+pub fn constructs_own<'a, C: Classes>(
+    method: &CodeMethod<'_, 'a>,
+    act: &Act<'a>,
+    constants: &mut ClassConstants<'_, '_, 'a, C>,
+    frames: &MethodFrames<'_, '_, 'a, C>,
+) -> Result<bool, AllocError>
+    requires { constants.old.members.class ≡ method.now.class.now }
+    ensures same { constants.new.members ≡ constants.old.members }
+    ensures own { IfOk result (λ b.
+        b ≡ constructs_own (typing_rule (method_view method.now) (act_view act.now)) (held frames.now)) }
+{
+    match special_index(act) {
+        None => Ok(false),
+        Some(_) => {
+            let named = constants.named(method, act)?;
+            Ok(calls_on_own(named.method(), frames))
+        }
+    }
+}
+
 /// Whether an entry of the exception table covers an instruction that calls a constructor on the own object, which is
 /// not initialized (JVMS 4.10.1.9, invokespecial). The only refusal: memory ran out.
 pub fn covers_constructor<'a, C: Classes>(
@@ -177,13 +199,7 @@ pub fn covers_constructor<'a, C: Classes>(
     if !handlers.covers(at) {
         return Ok(false);
     }
-    match special_index(act) {
-        None => Ok(false),
-        Some(_) => {
-            let named = constants.named(method, act)?;
-            Ok(calls_on_own(named.method(), frames))
-        }
-    }
+    constructs_own(method, act, constants, frames)
 }
 
 /// The facts about what an instruction names. The only refusal: memory ran out.

@@ -21,3 +21,21 @@ returns-clause-given g c =
       table = table_stays s2 s3 class.constant_pool c.in_ok-table.table c.method_types.ensures.kept c.in_ok-table.ensures.described;
       methods = c.in_ok-methods.ensures.given;
     }
+
+pub returns-in_err-table-clause-kept : goal.returns-in_err-table-clause-kept
+returns-in_err-table-clause-kept g c = extends_on c.args.types.now c.new.new.types c.new-2.new.numbers c.new.ensures.kept c.new-2.ensures.kept
+
+pub returns-in_err-descriptors-clause-kept : goal.returns-in_err-descriptors-clause-kept
+returns-in_err-descriptors-clause-kept g c = extends_on c.args.types.now c.new.new.types c.new-2.new.numbers c.new.ensures.kept c.new-2.ensures.kept
+
+pub returns-in_err-methods-clause-kept : goal.returns-in_err-methods-clause-kept
+returns-in_err-methods-clause-kept g c =
+    let s2 = c.new-2.new.numbers in
+    let early = extends_on c.args.types.now c.new.new.types s2 c.new.ensures.kept c.new-2.ensures.kept in
+    extends_on c.args.types.now s2 c.method_types.new.types early c.method_types.ensures.kept
+
+pub returns-clause-kept : goal.returns-clause-kept
+returns-clause-kept g c =
+    let s2 = c.new-2.new.numbers in
+    let early = extends_on c.args.types.now c.new.new.types s2 c.new.ensures.kept c.new-2.ensures.kept in
+    extends_on c.args.types.now s2 c.method_types.new.types early c.method_types.ensures.kept
