@@ -23,7 +23,7 @@ ghost use Rattle.verify.specs.private.Judged.{IsNumbered, JudgesRule};
 
 use crate::environment::Env;
 use crate::pass::ClassTypes;
-use crate::pass::members::{check_member, constructs_own as calls_on_own, facts_of};
+use crate::pass::members::{check_member, constructs_own, facts_of};
 use classfile::{ClassFile, CodeAttr};
 use frames::{CodeStarts, Frame, VType};
 use hierarchy::Classes;
@@ -155,7 +155,7 @@ fn judge<'a, C: Classes>(
         JudgesRule frames.old.types.classes m at a (typing_rule m a) (held frames.old) (held frames.new) result }
     ensures rest { IsRunning frames.old frames.new }
 {
-    let own = calls_on_own(body.method, act, constants, frames)?;
+    let own = constructs_own(body.method, act, constants, frames)?;
     let facts = facts_of(body.method, act, constants)?;
     let used = check_member(body.method, act, body.numbers.class, constants, frames);
     if let Err(reason) = run(body, at, act, facts, frames) {
@@ -242,8 +242,9 @@ fn leave<'a, C: Classes>(
     own: bool,
     frames: &MethodFrames<'_, '_, 'a, C>,
 ) -> Result<After<'a>, AllocError>
-    ensures { let a = act (view insn.now) in (m : Method meanings.Act) (f : FrameFact) → held frames.now ≡ after m at (typing_rule m a) f
-        → own ≡ constructs_own (typing_rule m a) f → IfOk result (Leaves m at (typing_rule m a) f) }
+    ensures { let a = act (view insn.now) in (m : Method meanings.Act) (f : FrameFact)
+        → held frames.now ≡ after m at (typing_rule m a) f → own ≡ constructs_own (typing_rule m a) f
+        → IfOk result (Leaves m at (typing_rule m a) f) }
 {
     Ok(After {
         frame: frames.frame(alloc)?,
@@ -286,8 +287,8 @@ fn apply_numbered<'a, C: Classes>(
 /// The instruction is refused with the least number that holds: one of its rule (60 to 66, 74, 76, 77, 90), or 77 or 82
 /// for the protected member that it uses; or with 1 where memory ran out.
 ///
-/// All types of the class are numbered for the one instruction: [`verify_method`](crate::verify_method) judges those of
-/// a whole method so.
+/// All types of the class get numbers for the one instruction. To judge a whole method call
+/// [`verify_method`](crate::verify_method), which gives them out once.
 pub fn apply<'a, C: Classes>(
     alloc: Global,
     env: &Env<'_, '_, 'a, C>,

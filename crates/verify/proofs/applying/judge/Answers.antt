@@ -1,14 +1,11 @@
-use Rattle.std.proofs.Common.{rules, ◌∙◌, Result, Bool, Ok, Err, sym, ap, subst}
+use Rattle.std.proofs.Common.{Result, Bool, Err, sym, subst}
 use Rattle.std.proofs.lemmas.Result.{err_from_is_err_and}
 use Rattle.insn.specs.Views.{act_view}
 use Rattle.numbered_rules.specs.Held.{held}
-use Rattle.rules.specs.After.{after}
 use Rattle.rules.specs.Bodies.{method_view}
-use Rattle.rules.specs.Outcomes.{Done, Judges}
 use Rattle.rules.specs.Protected.{member_conditions}
 use Rattle.rules.specs.Rules.{conditions}
 use Rattle.rules.specs.Table.{typing_rule}
-use Rattle.rules.specs.declared.reason.Reason.{Reason}
 use Rattle.rules.proofs.Lesser.{judges_behind}
 use Rattle.verify.specs.declared.applying.Refusal.{Refusal}
 use Rattle.verify.specs.private.Judged.{JudgesRule}

@@ -1,4 +1,4 @@
-use Rattle.std.proofs.Common.{◌≡◌, ◌∙◌, sym, ap}
+use Rattle.std.proofs.Common.{◌∙◌, ap}
 use Rattle.rules.specs.Guards.{Surroundings}
 use Rattle.type_numbers.specs.Numbers.{Numbering}
 use Rattle.verify.proofs.applying.judge_alone.Goals as goal
