@@ -39,18 +39,22 @@ const CONSTRUCT: Act<'static> = Act::InvokeSpecial { index: 9 };
 
 /// Whether the constant of the constructor is no field of the class itself, and asks for no bootstrap method.
 fn names_method<'a, C: Classes>(
+    alloc: Global,
     method: &CodeMethod<'_, 'a>,
-    mut constants: ClassConstants<'_, '_, 'a, C>,
+    classes: &C,
 ) -> Judged {
+    let mut constants = ClassConstants::new(alloc, method.class, classes);
     let own = constants.sets_own(method, 9)?;
     Ok(!own && constants.members.is_bootstrapped(method, 9)?)
 }
 
 /// Whether `invokespecial` of the constructor of Object calls a constructor.
 fn constructs<'a, C: Classes>(
+    alloc: Global,
     method: &CodeMethod<'_, 'a>,
-    mut constants: ClassConstants<'_, '_, 'a, C>,
+    classes: &C,
 ) -> Judged {
+    let mut constants = ClassConstants::new(alloc, method.class, classes);
     let named = constants.named(method, &CONSTRUCT)?;
     match named.method() {
         Some(called) => Ok(is_constructor(called)),
@@ -60,9 +64,11 @@ fn constructs<'a, C: Classes>(
 
 /// Whether a call of `clone` uses it on the object on top of the stack.
 fn uses<'a, C: Classes>(
+    alloc: Global,
     method: &CodeMethod<'_, 'a>,
-    mut constants: ClassConstants<'_, '_, 'a, C>,
+    classes: &C,
 ) -> Judged {
+    let mut constants = ClassConstants::new(alloc, method.class, classes);
     let named = constants.named(method, &CLONE)?;
     match used_by(method, &CLONE, &named) {
         Some(member) => Ok(member.index == 11 && member.above == 0),
@@ -110,12 +116,11 @@ fn ask_in<'a, C: Classes>(
     classes: &C,
     asked: Asked<'a>,
 ) -> Judged {
-    let constants = ClassConstants::new(alloc, method.class, classes);
     match asked {
         Asked::Lacks(object) => lacks(alloc, method, classes, object),
-        Asked::Uses => uses(method, constants),
-        Asked::Constructs => constructs(method, constants),
-        Asked::NamesMethod => names_method(method, constants),
+        Asked::Uses => uses(alloc, method, classes),
+        Asked::Constructs => constructs(alloc, method, classes),
+        Asked::NamesMethod => names_method(alloc, method, classes),
         Asked::IsOfK => Ok(own_class(method) == b"K".as_slice()),
     }
 }
