@@ -34,7 +34,7 @@ width_some (array component) = omega arith
 width_some uninit_this = omega arith
 width_some (uninit offset) = omega arith
 
-width_few : (t : VerificationType) → width_of t ≤ 2
+pub width_few : (t : VerificationType) → width_of t ≤ 2
 width_few top = omega arith
 width_few int = omega arith
 width_few float = omega arith

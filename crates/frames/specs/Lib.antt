@@ -18,15 +18,11 @@ pub mod LocalTypes
 pub mod Locals
 pub mod StackItems
 pub mod OperandStacks
-pub mod TypeChains
-pub mod Rising
-pub mod DeclaredViews
 pub mod DeclaredTables
 pub mod EntrySizes
 pub mod RefusedEntries
 pub mod Marks
 pub mod MarkedCode
-pub mod DeclaredForms
 pub mod Packing
 pub mod PackedFrames
 pub mod Undecided

@@ -2,14 +2,11 @@
 //! answers in specs/Assignable.antt and specs/FrameAssignable.antt (JVMS 4.10.1.2 and 4.10.1.4), and the formats in
 //! specs/StackMaps.antt (4.7.4). The calls to know are [`frame_assignable`] and [`read_map`].
 //!
-//! - `frame_tops`: the locals and the stack that an entry of a stack map leaves.
-//! - `chain`: types that share what lies below, as the locals of entries do.
 //! - `code_starts`: where the instructions of a method's code begin, byte by byte.
 //! - `assignability`: one type to another.
 //! - `frame_assignability`: one frame to another.
 //! - `constants`: the classes that entries name by the constant pool.
-//! - `declared_frames`: the frames that a stack map declares.
-//! - `declaring`: these frames made from the entries, and the first entry that is refused.
+//! - `declaring`: the frames that a stack map declares.
 //! - `difference`: what differs first of two frames, and where a class is missing first.
 //! - `entry_faults`: the entry that bytes do not spell.
 //! - `frame`: frames.
@@ -29,22 +26,17 @@
 //! - `starts`: where instructions begin.
 //! - `slot_comparison`: where equal slots do not decide.
 //! - `vtype`: verification types.
-//! - `walking`: chains gone through.
-//! - `whole_frames`: declared frames with all their locals.
 #![tactic(auto)]
 
 mod assignability;
-mod chain;
 mod code_starts;
 mod constants;
-mod declared_frames;
 mod declaring;
 mod difference;
 mod entry_faults;
 mod frame;
 mod frame_assignability;
 mod frame_fault;
-mod frame_tops;
 mod holders;
 pub mod laws;
 mod locals;
@@ -61,13 +53,10 @@ mod slot_comparison;
 mod stack_map;
 mod starts;
 mod vtype;
-mod walking;
-mod whole_frames;
 
 pub use assignability::assignable;
 pub use code_starts::CodeStarts;
-pub use declared_frames::{Declared, DeclaredFrames};
-pub use declaring::{RefusedEntry, declare, refused_entry};
+pub use declaring::{RefusedEntry, declared};
 pub use difference::{Difference, Mismatch, Sought, first_difference, first_missing, is_sought};
 pub use entry_faults::faulty_entry;
 pub use frame::Frame;
@@ -85,4 +74,3 @@ pub use slot_comparison::{ABSENT, first_undecided};
 pub use stack_map::{MapEntry, StackMap, TypeInfo, read_map};
 pub use starts::Starts;
 pub use vtype::VType;
-pub use whole_frames::declared;

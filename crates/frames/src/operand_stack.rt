@@ -1,8 +1,8 @@
 //! The operand stack of a running frame.
-ghost use Rattle.std.specs.Prelude.{◌≡◌, ◌<◌, ◌≤◌, ◌-◌, ℕ, length, set, map, reverse, take, None, OnOk};
+ghost use Rattle.std.specs.Prelude.{◌≡◌, ◌<◌, ◌≤◌, ◌-◌, ℕ, length, set, map, reverse, take, get_or, None, OnOk};
 ghost use Rattle.insn.specs.Stacks.{rearranged};
 ghost use Rattle.insn.specs.Views.{stack_form_view};
-ghost use Rattle.frames.specs.VerificationType.{VerificationType, type_of};
+ghost use Rattle.frames.specs.VerificationType.{VerificationType, type_of, top};
 ghost use Rattle.frames.specs.Holders.{number_of};
 ghost use Rattle.frames.specs.LocalTypes.{type_at};
 ghost use Rattle.frames.specs.ObjectHolders.{Holds};
@@ -13,7 +13,6 @@ use crate::holders::Holders;
 use crate::moves::{extra, rearrange, wides};
 use crate::objects::is_object;
 use crate::vtype::VType;
-use crate::walking::at_or_top;
 use insn::StackForm;
 use std::alloc::{AllocError, Global};
 
@@ -71,6 +70,16 @@ fn give<'a>(place: usize, t: VType<'a>, types: &mut Vec<VType<'a>>)
     ensures { types.new.items ≡ set types.old.items place t.entry }
 {
     types[place] = t;
+}
+
+/// The type at a place, all beyond them being top.
+fn at_or_top<'a>(from: &[VType<'a>], place: usize) -> VType<'a>
+    ensures { type_of result ≡ get_or (map type_of from.now) place top }
+{
+    if place >= from.len() {
+        return VType::Top;
+    }
+    from[place]
 }
 
 /// Puts a type in place of an object which is not initialized, at the places that came to hold it.
