@@ -7,7 +7,7 @@ use Rattle.frames.specs.VerificationType.{VerificationType, type_of, top}
 use Rattle.frames.specs.Slots.{units_of, in_locals, all_locals}
 use Rattle.frames.specs.EntrySizes.{HaveSizes}
 use Rattle.frames.specs.declared.refusing.Sizes.{Sizes}
-use Rattle.frames.proofs.StackItems.{units_reverse}
+use Rattle.frames.proofs.Units.{units_reverse}
 use Rattle.frames.proofs.Walks.{units_are}
 
 tops : (k : ℕ) → map type_of (replicate k Top) ≡ replicate k top

@@ -18,8 +18,5 @@ pub mod Refused
 pub mod FaultyEntries
 pub mod Writing
 pub mod Marking
-pub mod Holding
-pub mod LocalTypes
-pub mod StackItems
-pub mod StackMoves
-pub mod ListedItems
+pub mod Objects
+pub mod Units

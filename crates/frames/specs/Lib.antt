@@ -10,14 +10,7 @@ pub mod Slots
 pub mod StackMaps
 pub mod DeclaredFrames
 pub mod MapViews
-pub mod HeldFrames
 pub mod Objects
-pub mod Holders
-pub mod ObjectHolders
-pub mod LocalTypes
-pub mod Locals
-pub mod StackItems
-pub mod OperandStacks
 pub mod DeclaredTables
 pub mod EntrySizes
 pub mod RefusedEntries

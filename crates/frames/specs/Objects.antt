@@ -24,3 +24,8 @@ is_initialized _ _ = false
 
 abbrev pub replaced : VerificationType → VerificationType → VerificationType → VerificationType
 replaced object by t = if is_initialized object t then by else t
+
+-- is the object among these
+abbrev pub has_object : VerificationType → List VerificationType → Bool
+has_object object [] = false
+has_object object (t ∷ ts) = is_initialized object t || has_object object ts

@@ -11,14 +11,10 @@
 //! - `entry_faults`: the entry that bytes do not spell.
 //! - `frame`: frames.
 //! - `frame_fault`: why an entry is refused.
-//! - `holders`: the places that came to hold objects that are not initialized.
 //! - `laws`: what the answers mean, by chains of superclasses and place by place.
-//! - `locals`: the local variables of a running frame.
 //! - `map_reading`, `map_writing`: the two directions of a stack map.
-//! - `moves`: the items of a stack in place.
 //! - `naming`: the types of what descriptors and Class constants name.
 //! - `objects`: objects that are not initialized.
-//! - `operand_stack`: the operand stack of a running frame.
 //! - `packed_frame`: frames with their slots, compared by lanes.
 //! - `packing`: types as slots of four bytes.
 //! - `refusing`: an entry judged.
@@ -37,15 +33,11 @@ mod entry_faults;
 mod frame;
 mod frame_assignability;
 mod frame_fault;
-mod holders;
 pub mod laws;
-mod locals;
 mod map_reading;
 mod map_writing;
-mod moves;
 mod naming;
 mod objects;
-mod operand_stack;
 mod packed_frame;
 mod packing;
 mod refusing;
@@ -62,11 +54,8 @@ pub use entry_faults::faulty_entry;
 pub use frame::Frame;
 pub use frame_assignability::{both, frame_assignable, width};
 pub use frame_fault::FrameFault;
-pub use holders::Holder;
-pub use locals::Locals;
 pub use naming::{array_of, held_by, number_type, reference_to};
 pub use objects::{is_made_at, is_object, is_own};
-pub use operand_stack::OperandStack;
 pub use packed_frame::{Packed, packed_assignable};
 pub use packing::pack;
 pub use refusing::{Limits, Sizes, judge_entry};

@@ -1,7 +1,7 @@
 use Rattle.std.proofs.Common.{arith, get_or}
 use Rattle.frames.specs.declared.vtype.VType.TheVariants.{Top}
 use Rattle.frames.specs.VerificationType.{type_of}
-use Rattle.frames.proofs.StackItems.{width_few}
+use Rattle.frames.proofs.Units.{width_few}
 use Rattle.frames.proofs.declaring.units.Goals as goal
 
 pub overflow_add-units : goal.overflow_add-units
