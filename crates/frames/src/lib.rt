@@ -14,7 +14,7 @@
 //! - `laws`: what the answers mean, by chains of superclasses and place by place.
 //! - `map_reading`, `map_writing`: the two directions of a stack map.
 //! - `naming`: the types of what descriptors and Class constants name.
-//! - `objects`: objects that are not initialized.
+//! - `objects`: the own object that is not initialized.
 //! - `packed_frame`: frames with their slots, compared by lanes.
 //! - `packing`: types as slots of four bytes.
 //! - `refusing`: an entry judged.
@@ -55,7 +55,7 @@ pub use frame::Frame;
 pub use frame_assignability::{both, frame_assignable, width};
 pub use frame_fault::FrameFault;
 pub use naming::{array_of, held_by, number_type, reference_to};
-pub use objects::{is_made_at, is_object, is_own};
+pub use objects::is_own;
 pub use packed_frame::{Packed, packed_assignable};
 pub use packing::pack;
 pub use refusing::{Limits, Sizes, judge_entry};
