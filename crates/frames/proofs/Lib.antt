@@ -18,5 +18,5 @@ pub mod Refused
 pub mod FaultyEntries
 pub mod Writing
 pub mod Marking
-pub mod Objects
+pub mod OneObject
 pub mod Units
