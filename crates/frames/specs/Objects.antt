@@ -1,6 +1,6 @@
 -- Objects that are not initialized (JVMS 4.10.1.9, new and invokespecial): which types are of one object, and the type
 -- that takes their place.
-use Rattle.std.specs.Prelude.{ℕ, Bool, true, false, ◌==◌, if◌then◌else◌}
+use Rattle.std.specs.Prelude.{ℕ, Bool, true, false, ◌==◌, ◌||◌, List, [], ◌∷◌, if◌then◌else◌}
 use Rattle.frames.specs.VerificationType.{VerificationType, top, int, float, long, double, null, class, array, uninit_this, uninit}
 
 -- is it the object that the `new` at this offset has made
