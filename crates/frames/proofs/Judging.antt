@@ -1,15 +1,10 @@
 -- Types of an entry one by one: whether something is wrong with one of them.
-use Rattle.std.proofs.Common.{◌≡◌, ◌∙◌, ℕ, zero, suc, ◌≤◌, ◌<◌, ◌+◌, Bool, true, false, ◌||◌, ltb, if◌then◌else◌, List, [], ◌∷◌, ◌++◌, map, take, length, get_or, Option, Some, None, refl, sym, ap, arith, inl, inr}
+use Rattle.std.proofs.Common.{◌≡◌, ◌∙◌, ℕ, zero, suc, ◌<◌, ◌+◌, Bool, true, false, ◌||◌, List, [], ◌∷◌, ◌++◌, map, take, length, get_or, refl, sym, ap, arith}
 use Rattle.std.proofs.lemmas.List.{take_more, map_push}
-use Rattle.std.proofs.lemmas.Bool.{cases_lt}
-use Rattle.std.proofs.lemmas.Bool.Decides.{nat_tests}
-use Rattle.frames.specs.Conditions.{Reason, reason, number_of, Conditions, lesser, least}
 use Rattle.frames.specs.StackMaps.{TypeInfo}
 use Rattle.frames.specs.MapViews.{info_of}
 use Rattle.frames.specs.DeclaredFrames.{any_info}
-use Rattle.frames.specs.private.Judging.{seven_faults}
 use Rattle.frames.specs.declared.stack_map.TypeInfo.{TypeInfo as Info}
-use Rattle.hierarchy.proofs.Names.{none_some}
 
 pub any_more : (f : TypeInfo → Bool) (xs ys : List TypeInfo) → any_info f (xs ++ ys) ≡ any_info f xs || any_info f ys
 any_more f [] ys = refl

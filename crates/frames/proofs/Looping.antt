@@ -1,7 +1,7 @@
 -- The frames of a map entry by entry: what a loop over the entries keeps.
 use Rattle.std.proofs.Common.{◌≡◌, ◌∙◌, ℕ, zero, suc, ◌+◌, List, [], ◌∷◌, ◌++◌, Vec, Global, Option, Some, None, Result, Ok, Err, refl, sym, ap, subst, arith, append_assoc}
 use Rattle.std.specs.Prelude.{IsErrAnd}
-use Rattle.std.proofs.lemmas.List.{append-nil, map-append}
+use Rattle.std.proofs.lemmas.List.{map-append}
 use Rattle.pool.specs.Entries.{Entry}
 use Rattle.insn.specs.Meanings.{Act}
 use Rattle.frames.specs.VerificationType.{VerificationType}
@@ -63,10 +63,6 @@ abbrev pub behind_frames : List (ℕ × FrameFact) → Answer → Answer
 behind_frames done (Ok more) = Ok (done ++ more)
 behind_frames done (Err r) = Err r
 
-pub none_done : (r : Answer) → behind_frames [] r ≡ r
-none_done (Ok gs) = refl
-none_done (Err e) = refl
-
 frames_more : (fs : List (ℕ × Frame)) (at : ℕ) (f : Frame) → whole_frames (fs ++ (at, f) ∷ []) ≡ whole_frames fs ++ (at, frame_of f) ∷ []
 frames_more fs at f = map-append (λ (x : ℕ × Frame). (x.0, frame_of x.1)) fs ((at, f) ∷ [])
 
@@ -106,6 +102,3 @@ module _ (pool : List Entry) (code : List (ℕ × Act)) (max_locals max_stack : 
         ∙ sym (behind_one (whole_frames frames) at fact (others at))
         ∙ sym (ap (λ o. behind_frames (whole_frames frames) (frame_before pool code max_locals max_stack o at fact (others at))) one.free)
         ∙ begins
-
-  pub all_begun : (frames : List (ℕ × Frame)) (behind : ℕ) (ts : List VerificationType) (answer : Answer) → AreBegun frames behind ts [] answer → answer ≡ Ok (whole_frames frames)
-  all_begun frames behind ts answer h = sym h ∙ ap (λ (gs : List (ℕ × FrameFact)). Ok gs) (append-nil (whole_frames frames))

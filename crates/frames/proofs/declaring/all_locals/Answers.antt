@@ -1,7 +1,7 @@
-use Rattle.std.proofs.Common.{◌≡◌, ◌∙◌, ◌++◌, [], List, map, sym, ap, refl, arith}
+use Rattle.std.proofs.Common.{◌≡◌, ◌∙◌, ◌++◌, List, map, sym, ap, arith}
 use Rattle.std.proofs.lemmas.List.{append-nil, drop_all}
 use Rattle.frames.specs.declared.vtype.VType.{VType}
-use Rattle.frames.specs.VerificationType.{VerificationType, type_of}
+use Rattle.frames.specs.VerificationType.{type_of}
 use Rattle.frames.specs.Slots.{in_locals}
 use Rattle.frames.proofs.Filling.{filled_up}
 use Rattle.frames.proofs.declaring.all_locals.Goals as goal

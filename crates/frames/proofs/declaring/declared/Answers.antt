@@ -1,6 +1,5 @@
-use Rattle.std.proofs.Common.{◌≡◌, ◌∙◌, ◌+◌, ◌∷◌, List, Ok, Err, map, drop, length, refl, sym, ap, subst, arith}
+use Rattle.std.proofs.Common.{◌≡◌, ◌∙◌, ◌+◌, ◌∷◌, List, map, drop, refl, sym, ap, subst, arith}
 use Rattle.std.proofs.lemmas.List.{drop_more}
-use Rattle.insn.specs.Instructions.{Instruction}
 use Rattle.insn.specs.Offsets.{acts}
 use Rattle.insn.specs.Views.{views}
 use Rattle.frames.specs.VerificationType.{type_of}
