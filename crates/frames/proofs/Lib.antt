@@ -10,22 +10,13 @@ pub mod Frames
 pub mod Differences
 mod Examples
 pub mod Steps
-pub mod TypeChains
-pub mod Leaving
 pub mod Walks
 pub mod Judging
 pub mod Looping
+pub mod Filling
 pub mod Refused
 pub mod FaultyEntries
-pub mod Finding
 pub mod Writing
 pub mod Marking
-pub mod Whole
-pub mod Forms
-pub mod Sharing
-pub mod Holding
-pub mod LocalTypes
-pub mod LocalWrites
-pub mod StackItems
-pub mod StackMoves
-pub mod ListedItems
+pub mod OneObject
+pub mod Units

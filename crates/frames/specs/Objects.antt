@@ -1,6 +1,6 @@
 -- Objects that are not initialized (JVMS 4.10.1.9, new and invokespecial): which types are of one object, and the type
 -- that takes their place.
-use Rattle.std.specs.Prelude.{ℕ, Bool, true, false, ◌==◌, if◌then◌else◌}
+use Rattle.std.specs.Prelude.{ℕ, Bool, true, false, ◌==◌, ◌||◌, List, [], ◌∷◌, if◌then◌else◌}
 use Rattle.frames.specs.VerificationType.{VerificationType, top, int, float, long, double, null, class, array, uninit_this, uninit}
 
 -- is it the object that the `new` at this offset has made
@@ -24,3 +24,8 @@ is_initialized _ _ = false
 
 abbrev pub replaced : VerificationType → VerificationType → VerificationType → VerificationType
 replaced object by t = if is_initialized object t then by else t
+
+-- is the object among these
+abbrev pub has_object : VerificationType → List VerificationType → Bool
+has_object object [] = false
+has_object object (t ∷ ts) = is_initialized object t || has_object object ts

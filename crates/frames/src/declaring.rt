@@ -1,22 +1,26 @@
-//! The frames of a whole stack map, and the first entry that is refused.
-ghost use Rattle.std.specs.Prelude.{◌≡◌, ◌<◌, ◌≤◌, map, option_map, length, [], IfOk};
+//! The frames that a stack map declares.
+ghost use Rattle.std.specs.Prelude.{◌≡◌, ◌<◌, ◌≤◌, ◌*◌, ◌++◌, map, reverse, length, IfOk, OnOk};
+ghost use Rattle.insn.specs.Offsets.{acts};
+ghost use Rattle.insn.specs.Views.{views};
 ghost use Rattle.frames.specs.VerificationType.{type_of};
-ghost use Rattle.frames.specs.MapViews.{entry_of};
-ghost use Rattle.frames.specs.DeclaredFrames.{delta_of, declared_frames};
-ghost use Rattle.frames.specs.DeclaredViews.{locals_at};
-ghost use Rattle.frames.specs.private.Judging.{Declares, AreDeclared, refused_by};
-ghost use Rattle.frames.specs.RefusedEntries.{refused_entry, refused_of};
-ghost use Rattle.frames.specs.DeclaredTables.{IsDeclared, locals_in};
+ghost use Rattle.frames.specs.Slots.{units_of, in_locals, all_locals};
+ghost use Rattle.frames.specs.MapViews.{info_of, entry_of};
+ghost use Rattle.frames.specs.DeclaredFrames.{types_given, locals_of, stack_of, has_uninit_this, declared_frames};
+ghost use Rattle.frames.specs.DeclaredTables.{AreTold};
+ghost use Rattle.frames.specs.private.Judging.{Declares};
 
-use crate::chain::TypeChains;
-use crate::declared_frames::DeclaredFrames;
+use crate::code_starts::ListStarts;
+use crate::constants::type_given;
+use crate::frame::Frame;
+use crate::frame_assignability::width;
 use crate::frame_fault::FrameFault;
-use crate::frame_tops::{FrameTops, frame_after};
-use crate::refusing::{Limits, judge};
-use crate::stack_map::MapEntry;
+use crate::objects::is_own;
+use crate::refusing::{Limits, Sizes, judge_entry};
+use crate::stack_map::{MapEntry, StackMap, TypeInfo};
 use crate::starts::Starts;
 use crate::vtype::VType;
-use pool::ConstantTypes;
+use insn::Insn;
+use pool::{ConstantTypes, Pool};
 use std::alloc::{AllocError, Global};
 
 /// The first entry of a stack map that is refused (JVMS 4.7.4, 4.10.1).
@@ -30,142 +34,190 @@ pub struct RefusedEntry {
     pub fault: FrameFault,
 }
 
-fn delta(entry: &MapEntry) -> u16
-    ensures { result ≡ delta_of (entry_of entry.now) }
+/// Puts the types that an entry gives behind others.
+fn push_given<'a>(
+    infos: &[TypeInfo],
+    constants: &mut ConstantTypes<'_, 'a>,
+    types: &mut Vec<VType<'a>>,
+) -> Result<(), AllocError>
+    ensures same { constants.new ≡ constants.old }
+    ensures pushed { OnOk result (map type_of types.new.items
+        ≡ map type_of types.old.items ++ types_given constants.old (map info_of infos.now)) }
+{
+    for info in infos {
+        let given = type_given(constants, *info)?;
+        types.push(given)?;
+    }
+    Ok(())
+}
+
+/// The locals become those that an entry leaves. A long or double is one of them.
+fn change_locals<'a>(
+    entry: &MapEntry,
+    constants: &mut ConstantTypes<'_, 'a>,
+    locals: &mut Vec<VType<'a>>,
+) -> Result<(), AllocError>
+    ensures same { constants.new ≡ constants.old }
+    ensures changed { OnOk result (map type_of locals.new.items
+        ≡ locals_of constants.old (map type_of locals.old.items) (entry_of entry.now)) }
 {
     match entry {
-        MapEntry::Same(delta) => u16::from(*delta),
-        MapEntry::SameWithItem(delta, _) => u16::from(*delta),
-        MapEntry::SameWithItemExtended(delta, _) => *delta,
-        MapEntry::Chop(_, delta) => *delta,
-        MapEntry::SameExtended(delta) => *delta,
-        MapEntry::Append(delta, _) => *delta,
-        MapEntry::Full(delta, _, _) => *delta,
+        MapEntry::Chop(count, _) => {
+            locals.truncate(locals.len().saturating_sub(usize::from(*count)));
+            Ok(())
+        }
+        MapEntry::Append(_, infos) => push_given(infos, constants, locals),
+        MapEntry::Full(_, infos, _) => {
+            locals.clear();
+            push_given(infos, constants, locals)
+        }
+        _ => Ok(()),
     }
 }
 
-// The frame of an entry, whose offset is its delta behind the first offset behind the entry in front; or its least
-// fault.
-fn declare_one<'a, S: Starts>(
-    chains: &mut TypeChains<'a>,
-    before: usize,
-    behind: u32,
+/// The stack of an entry from the bottom up.
+fn stack_at<'a>(
+    alloc: Global,
     entry: &MapEntry,
-    limits: &Limits<'_, 'a, S>,
     constants: &mut ConstantTypes<'_, 'a>,
-) -> Result<Result<FrameTops, FrameFault>, AllocError>
-    requires constants { constants.old ≡ limits.now.pool.now }
-    requires few { behind ≤ 65536 }
-    requires inside { before ≤ length chains.old.links.items }
+) -> Result<Vec<VType<'a>>, AllocError>
     ensures same { constants.new ≡ constants.old }
-    ensures small { IfOk result (λ r. IfOk r (λ f. f.at < 65536)) }
-    ensures declares { IfOk result
-        (Declares limits.now.pool.now
-        (S.code limits.now.starts.now) limits.now.max_locals limits.now.max_stack
-        chains.old.links.items chains.new.links.items behind before (entry_of entry.now)) }
+    ensures stack { IfOk result (λ v. reverse (map type_of v.items) ≡ stack_of constants.old (entry_of entry.now)) }
 {
-    let at = behind + u32::from(delta(entry));
-    let frame = frame_after(chains, before, at, entry, constants)?;
-    match judge(chains, before, entry, frame, limits) {
-        Some(fault) => Ok(Err(fault)),
-        None => Ok(Ok(frame)),
+    let mut stack = Vec::new(alloc);
+    match entry {
+        MapEntry::SameWithItem(_, item) | MapEntry::SameWithItemExtended(_, item) => {
+            let given = type_given(constants, *item)?;
+            stack.push(given)?;
+            Ok(stack)
+        }
+        MapEntry::Full(_, _, infos) => {
+            push_given(infos, constants, &mut stack)?;
+            Ok(stack)
+        }
+        _ => Ok(stack),
     }
 }
 
-// Puts the frames of entries behind the others, of which there are none; or tells the first entry that is refused.
-fn declare_all<'a, S: Starts>(
-    chains: &mut TypeChains<'a>,
-    frames: &mut Vec<FrameTops>,
-    first: usize,
-    entries: &[MapEntry],
-    limits: &Limits<'_, 'a, S>,
-    constants: &mut ConstantTypes<'_, 'a>,
-) -> Result<Result<(), RefusedEntry>, AllocError>
-    requires constants { constants.old ≡ limits.now.pool.now }
-    requires empty { frames.old.items ≡ [] }
-    requires inside { first ≤ length chains.old.links.items }
-    ensures same { constants.new ≡ constants.old }
-    ensures declared { IfOk result
-        (AreDeclared (declared_frames limits.now.pool.now
-        (S.code limits.now.starts.now) limits.now.max_locals limits.now.max_stack
-        (locals_at chains.old.links.items first)
-        (map entry_of entries.now)) limits.now.max_locals chains.new.links.items frames.new.items) }
-    ensures refused { IfOk result (λ r. refused_by r ≡ refused_entry limits.now.pool.now
-        (S.code limits.now.starts.now) limits.now.max_locals limits.now.max_stack
-        (locals_at chains.old.links.items first) (map entry_of entries.now)) }
+/// How many units types take.
+fn units(types: &[VType<'_>]) -> usize
+    ensures { result ≡ units_of (map type_of types.now) }
 {
-    let mut before = first;
-    let mut behind = 0;
-    for entry in entries {
-        match declare_one(chains, before, behind, entry, limits, constants)? {
-            Err(fault) => {
-                return Ok(Err(RefusedEntry {
-                    place: frames.len(),
-                    at: behind + u32::from(delta(entry)),
-                    fault,
-                }));
-            }
-            Ok(frame) => {
-                frames.push(frame)?;
-                before = frame.locals;
-                behind = frame.at + 1;
-            }
+    let mut units = 0;
+    for t in types {
+        units += usize::from(width(t));
+    }
+    units
+}
+
+/// Whether the own object that is not initialized is among types.
+fn has_own(types: &[VType<'_>]) -> bool
+    ensures { result ≡ has_uninit_this (map type_of types.now) }
+{
+    for t in types {
+        if is_own(t) {
+            return true;
         }
     }
-    Ok(Ok(()))
+    false
 }
 
-/// The frames that the entries of a stack map declare, by rising offsets (JVMS 4.7.4); or, of the first entry that is
-/// refused, the fault of the least number.
+/// All locals of a frame, of which the first have these types: a long or double is followed by `Top`, and those beyond
+/// the types are `Top`.
+fn all_locals<'a>(
+    alloc: Global,
+    types: &[VType<'a>],
+    max_locals: u16,
+) -> Result<Vec<VType<'a>>, AllocError>
+    requires { length (in_locals (map type_of types.now)) ≤ max_locals }
+    ensures { IfOk result (λ v. map type_of v.items ≡ all_locals max_locals (map type_of types.now)) }
+{
+    let mut all = Vec::with_capacity(alloc, usize::from(max_locals))?;
+    for t in types {
+        all.push(*t)?;
+        if width(t) == 2 {
+            all.push(VType::Top)?;
+        }
+    }
+    all.resize(usize::from(max_locals), VType::Top)?;
+    Ok(all)
+}
+
+/// The frame of an entry at an offset in bytes, behind locals that become those of the entry; or its fault of the least
+/// number.
+fn declare_one<'a, S: Starts>(
+    alloc: Global,
+    entry: &MapEntry,
+    at: u32,
+    limits: &Limits<'_, 'a, S>,
+    constants: &mut ConstantTypes<'_, 'a>,
+    locals: &mut Vec<VType<'a>>,
+) -> Result<Frame<'a>, FrameFault>
+    requires { constants.old ≡ limits.now.pool.now }
+    ensures same { constants.new ≡ constants.old }
+    ensures small { IfOk result (λ f. at < 65536) }
+    ensures locals { OnOk result (map type_of locals.new.items
+        ≡ locals_of limits.now.pool.now (map type_of locals.old.items) (entry_of entry.now)) }
+    ensures declares { Declares limits.now.pool.now (S.code limits.now.starts.now) limits.now.max_locals
+        limits.now.max_stack at (map type_of locals.old.items) (entry_of entry.now) result }
+{
+    let before = locals.len();
+    change_locals(entry, constants, locals)?;
+    let stack = stack_at(alloc, entry, constants)?;
+    let sizes = Sizes {
+        before,
+        locals: units(locals),
+        stack: units(&stack),
+    };
+    if let Some(fault) = judge_entry(entry, at, sizes, limits) {
+        return Err(fault);
+    }
+    let all = all_locals(alloc, locals, limits.max_locals)?;
+    Ok(Frame {
+        locals: all,
+        stack,
+        flag: has_own(locals),
+    })
+}
+
+/// The frames that a stack map declares, each with its offset in bytes (JVMS 4.7.4).
 ///
-/// `initial` has the types of the receiver and of the parameters, a long or double being one of them. Locals and stacks
-/// are counted in units. The memory that is taken is a small multiple of the entries and of the texts that they name.
-/// `constants` are those of the limits' pool: the name of an array class is read once, however many entries of however
-/// many stack maps name it.
-pub fn declare<'a, S: Starts>(
+/// Otherwise the first entry that is refused gives the fault, by the least number of those that hold of it: 8, 9 or 49
+/// to 53. 1 where memory runs out.
+///
+/// `code` has the instructions of the method with their offsets, of which the first at an offset counts. `initial` has
+/// the types of the receiver and of the parameters, a long or double being one of them. Each frame has all its locals.
+pub fn declared<'a>(
     alloc: Global,
-    entries: &[MapEntry],
-    limits: &Limits<'_, 'a, S>,
-    constants: &mut ConstantTypes<'_, 'a>,
+    stack_map: &StackMap<'_>,
+    pool: &Pool<'a>,
+    code: &[(u16, Insn<'_>)],
     initial: &[VType<'a>],
-) -> Result<Result<DeclaredFrames<'a>, FrameFault>, AllocError>
-    requires { constants.old ≡ limits.now.pool.now }
-    ensures same { constants.new ≡ constants.old }
-    ensures declared { IfOk result
-        (IsDeclared (declared_frames limits.now.pool.now
-        (S.code limits.now.starts.now) limits.now.max_locals limits.now.max_stack (map type_of initial.now)
-        (map entry_of entries.now))) }
-    ensures locals { IfOk result (λ r. IfOk r (λ t. locals_in t ≡ limits.now.max_locals)) }
+    max_locals: u16,
+    max_stack: u16,
+) -> Result<Vec<(u16, Frame<'a>)>, FrameFault>
+    ensures { AreTold (declared_frames pool.now (acts (views code.now)) max_locals max_stack
+        (map type_of initial.now) stack_map.now) result }
 {
-    let mut chains: TypeChains<'a> = TypeChains::new(alloc);
+    let starts = ListStarts::new(alloc, code)?;
+    let mut constants = ConstantTypes::new(alloc, pool);
+    let limits = Limits {
+        pool,
+        starts: &starts,
+        max_locals,
+        max_stack,
+    };
+    let mut locals = Vec::new(alloc);
+    locals.extend_from_slice(initial)?;
     let mut frames = Vec::new(alloc);
-    let first = chains.push_all(initial, 0)?;
-    match declare_all(&mut chains, &mut frames, first, entries, limits, constants)? {
-        Err(refused) => Ok(Err(refused.fault)),
-        Ok(()) => Ok(Ok(DeclaredFrames::new(chains, frames, limits.max_locals))),
+    let mut behind = 0;
+    for entry in stack_map.entries() {
+        let at = behind + u32::from(entry.delta());
+        let frame = declare_one(alloc, entry, at, &limits, &mut constants, &mut locals)?;
+        let Ok(()) = frames.push((at as u16, frame)) else {
+            return Err(FrameFault::OutOfMemory);
+        };
+        behind = at + 1;
     }
-}
-
-/// The first entry of a stack map that is refused, for which [`declare`] tells the fault; `None` where no entry is.
-/// Arguments and memory are those of [`declare`].
-pub fn refused_entry<'a, S: Starts>(
-    alloc: Global,
-    entries: &[MapEntry],
-    limits: &Limits<'_, 'a, S>,
-    constants: &mut ConstantTypes<'_, 'a>,
-    initial: &[VType<'a>],
-) -> Result<Option<RefusedEntry>, AllocError>
-    requires { constants.old ≡ limits.now.pool.now }
-    ensures same { constants.new ≡ constants.old }
-    ensures found { IfOk result (λ o. option_map refused_of o
-        ≡ refused_entry limits.now.pool.now (S.code limits.now.starts.now) limits.now.max_locals limits.now.max_stack
-        (map type_of initial.now) (map entry_of entries.now)) }
-{
-    let mut chains: TypeChains<'a> = TypeChains::new(alloc);
-    let mut frames = Vec::new(alloc);
-    let first = chains.push_all(initial, 0)?;
-    match declare_all(&mut chains, &mut frames, first, entries, limits, constants)? {
-        Err(refused) => Ok(Some(refused)),
-        Ok(()) => Ok(None),
-    }
+    Ok(frames)
 }

@@ -1,5 +1,4 @@
-//! The meaning of the answers of the comparisons, and that declared frames tell the same in both of their forms.
-ghost use Rattle.frames.specs.DeclaredForms.{FormsAgree};
+//! The meaning of the answers of the comparisons, and of what is told of stack maps that are refused.
 ghost use Rattle.frames.specs.Differences.{DifferencesAreNo, MissingIsFound};
 ghost use Rattle.frames.specs.RefusedEntries.{RefusedIsReason, FaultyIsFault};
 ghost use Rattle.frames.specs.Packing.{EqualSlotsAreEqualTypes, EqualSlotsAreYes};
@@ -46,12 +45,6 @@ pub fn faulty_is_fault()
 /// Each frame is assignable to itself.
 pub fn frames_to_themselves()
     ensures { FramesToThemselves }
-{}
-
-/// The frames of a table that [`declare`](crate::declare) makes are the whole frames that
-/// [`declared`](crate::declared) tells, and where one refuses, so does the other, by the same number.
-pub fn forms_agree()
-    ensures { FormsAgree }
 {}
 
 /// Types of equal slots are equal, that of absent classes aside, and so each stands for the other.

@@ -2,26 +2,19 @@
 //! answers in specs/Assignable.antt and specs/FrameAssignable.antt (JVMS 4.10.1.2 and 4.10.1.4), and the formats in
 //! specs/StackMaps.antt (4.7.4). The calls to know are [`frame_assignable`] and [`read_map`].
 //!
-//! - `frame_tops`: the locals and the stack that an entry of a stack map leaves.
-//! - `chain`: types that share what lies below, as the locals of entries do.
 //! - `code_starts`: where the instructions of a method's code begin, byte by byte.
 //! - `assignability`: one type to another.
 //! - `frame_assignability`: one frame to another.
 //! - `constants`: the classes that entries name by the constant pool.
-//! - `declared_frames`: the frames that a stack map declares.
-//! - `declaring`: these frames made from the entries, and the first entry that is refused.
+//! - `declaring`: the frames that a stack map declares.
 //! - `difference`: what differs first of two frames, and where a class is missing first.
 //! - `entry_faults`: the entry that bytes do not spell.
 //! - `frame`: frames.
 //! - `frame_fault`: why an entry is refused.
-//! - `holders`: the places that came to hold objects that are not initialized.
 //! - `laws`: what the answers mean, by chains of superclasses and place by place.
-//! - `locals`: the local variables of a running frame.
 //! - `map_reading`, `map_writing`: the two directions of a stack map.
-//! - `moves`: the items of a stack in place.
 //! - `naming`: the types of what descriptors and Class constants name.
-//! - `objects`: objects that are not initialized.
-//! - `operand_stack`: the operand stack of a running frame.
+//! - `objects`: the own object that is not initialized.
 //! - `packed_frame`: frames with their slots, compared by lanes.
 //! - `packing`: types as slots of four bytes.
 //! - `refusing`: an entry judged.
@@ -29,31 +22,22 @@
 //! - `starts`: where instructions begin.
 //! - `slot_comparison`: where equal slots do not decide.
 //! - `vtype`: verification types.
-//! - `walking`: chains gone through.
-//! - `whole_frames`: declared frames with all their locals.
 #![tactic(auto)]
 
 mod assignability;
-mod chain;
 mod code_starts;
 mod constants;
-mod declared_frames;
 mod declaring;
 mod difference;
 mod entry_faults;
 mod frame;
 mod frame_assignability;
 mod frame_fault;
-mod frame_tops;
-mod holders;
 pub mod laws;
-mod locals;
 mod map_reading;
 mod map_writing;
-mod moves;
 mod naming;
 mod objects;
-mod operand_stack;
 mod packed_frame;
 mod packing;
 mod refusing;
@@ -61,23 +45,17 @@ mod slot_comparison;
 mod stack_map;
 mod starts;
 mod vtype;
-mod walking;
-mod whole_frames;
 
 pub use assignability::assignable;
 pub use code_starts::CodeStarts;
-pub use declared_frames::{Declared, DeclaredFrames};
-pub use declaring::{RefusedEntry, declare, refused_entry};
+pub use declaring::{RefusedEntry, declared};
 pub use difference::{Difference, Mismatch, Sought, first_difference, first_missing, is_sought};
 pub use entry_faults::faulty_entry;
 pub use frame::Frame;
 pub use frame_assignability::{both, frame_assignable, width};
 pub use frame_fault::FrameFault;
-pub use holders::Holder;
-pub use locals::Locals;
 pub use naming::{array_of, held_by, number_type, reference_to};
-pub use objects::{is_made_at, is_object, is_own};
-pub use operand_stack::OperandStack;
+pub use objects::is_own;
 pub use packed_frame::{Packed, packed_assignable};
 pub use packing::pack;
 pub use refusing::{Limits, Sizes, judge_entry};
@@ -85,4 +63,3 @@ pub use slot_comparison::{ABSENT, first_undecided};
 pub use stack_map::{MapEntry, StackMap, TypeInfo, read_map};
 pub use starts::Starts;
 pub use vtype::VType;
-pub use whole_frames::declared;

@@ -4,15 +4,11 @@ ghost use Rattle.frames.specs.VerificationType.{VerificationType};
 ghost use Rattle.frames.specs.MapViews.{info_of, entry_of};
 ghost use Rattle.frames.specs.Conditions.{least};
 ghost use Rattle.frames.specs.DeclaredFrames.{any_info, infos_of, chops_more, entry_conditions};
-ghost use Rattle.frames.specs.TypeChains.{types_at};
-ghost use Rattle.frames.specs.DeclaredViews.{locals_at};
 ghost use Rattle.frames.specs.EntrySizes.{HaveSizes, told};
 ghost use Rattle.frames.specs.private.Judging.{is_wrong, seven_faults};
 
-use crate::chain::TypeChains;
 use crate::constants::{is_absent, is_other};
 use crate::frame_fault::FrameFault;
-use crate::frame_tops::FrameTops;
 use crate::stack_map::{MapEntry, TypeInfo};
 use crate::starts::Starts;
 use pool::Pool;
@@ -179,26 +175,4 @@ pub fn judge_entry<S: Starts>(
         made_nowhere: has_wrong(Wrong::MadeNowhere, entry, pool, starts),
     };
     faults.least()
-}
-
-/// The least fault of an entry that declares this frame, behind locals that begin at a place.
-pub fn judge<S: Starts>(
-    chains: &TypeChains<'_>,
-    before: usize,
-    entry: &MapEntry,
-    frame: FrameTops,
-    limits: &Limits<'_, '_, S>,
-) -> Option<FrameFault>
-    ensures small { result ≡ None → frame.at < 65536 }
-    ensures least { let links = chains.now.links.items in
-        told result ≡ least (entry_conditions limits.now.pool.now
-        (S.code limits.now.starts.now) limits.now.max_locals limits.now.max_stack frame.at (entry_of entry.now)
-        (locals_at links before) (locals_at links frame.locals) (types_at links frame.stack)) }
-{
-    let sizes = Sizes {
-        before: chains.sums(before).count,
-        locals: chains.units(frame.locals),
-        stack: chains.units(frame.stack),
-    };
-    judge_entry(entry, frame.at, sizes, limits)
 }

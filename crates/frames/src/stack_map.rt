@@ -47,6 +47,25 @@ pub enum MapEntry {
     Full(u16, Vec<TypeInfo>, Vec<TypeInfo>),
 }
 
+impl MapEntry {
+    ghost use Rattle.frames.specs.DeclaredFrames.{delta_of};
+
+    /// The distance of its frame from the one in front of it, in bytes: the offset_delta.
+    pub fn delta(&self) -> u16
+        ensures { result ≡ delta_of (entry_of self.now) }
+    {
+        match self {
+            MapEntry::Same(delta) => u16::from(*delta),
+            MapEntry::SameWithItem(delta, _) => u16::from(*delta),
+            MapEntry::SameWithItemExtended(delta, _) => *delta,
+            MapEntry::Chop(_, delta) => *delta,
+            MapEntry::SameExtended(delta) => *delta,
+            MapEntry::Append(delta, _) => *delta,
+            MapEntry::Full(delta, _, _) => *delta,
+        }
+    }
+}
+
 /// The body of a StackMapTable: its entries in order. The lifetime is that of the body; an entry keeps nothing of it.
 #[derive(Debug, Drop)]
 pub struct StackMap<'a> {

@@ -5,7 +5,7 @@ use Rattle.std.proofs.lemmas.Bool.{le-leb, leb-true}
 use Rattle.std.proofs.lemmas.List.{map-append, length-append, length-map, length-drop, length-take-le, reverse-append, take-append-drop, take_rest}
 use Rattle.frames.specs.FrameAssignable.{width_of}
 use Rattle.frames.specs.Slots.{units_of}
-use Rattle.frames.proofs.StackItems.{units_append, units_reverse, units_least, units_most}
+use Rattle.frames.proofs.Units.{units_append, units_reverse, units_least, units_most}
 use Rattle.type_numbers.specs.Numbers.{Numbering}
 use Rattle.type_numbers.specs.Decoding.{type_by, types_by}
 use Rattle.method_frames.specs.private.Counted.{IsCounted}

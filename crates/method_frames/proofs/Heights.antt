@@ -3,7 +3,7 @@ use Rattle.std.proofs.Common.{◌≡◌, ◌∙◌, ℕ, suc, ◌+◌, ◌<◌, 
 use Rattle.std.proofs.lemmas.Option.{same_Some, slice_get_read}
 use Rattle.std.proofs.lemmas.List.{length-map, length-append, length-reverse, length-take-le, get_or-map, get_or_append_left, get_or_push, map_push, reverse-reverse, ext_get_or, get_or-take}
 use Rattle.frames.specs.Slots.{units_of}
-use Rattle.frames.proofs.StackItems.{units_reverse}
+use Rattle.frames.proofs.Units.{units_reverse}
 use Rattle.type_numbers.specs.Numbers.{Numbering}
 use Rattle.type_numbers.specs.Decoding.{types_by}
 use Rattle.method_frames.specs.TypeRows.{NumberedRows, declared_in}

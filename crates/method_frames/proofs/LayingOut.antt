@@ -6,7 +6,7 @@ use Rattle.std.proofs.Math.Seq.{set-append_seam}
 use Rattle.frames.specs.VerificationType.{VerificationType, top}
 use Rattle.frames.specs.FrameAssignable.{width_of}
 use Rattle.frames.specs.Slots.{is_wide, units_of, in_locals, all_locals}
-use Rattle.frames.proofs.StackItems.{units_append, units_reverse}
+use Rattle.frames.proofs.Units.{units_append, units_reverse}
 use Rattle.frames.proofs.Walks.{width_is, in_append, units_in}
 use Rattle.type_numbers.specs.Numbers.{Numbering, IsGiven}
 use Rattle.type_numbers.specs.Decoding.{type_by, types_by}

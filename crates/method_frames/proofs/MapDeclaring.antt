@@ -10,7 +10,7 @@ use Rattle.frames.specs.EntrySizes.{HaveSizes}
 use Rattle.frames.specs.StackMaps.{MapEntry, same, same_with_item, same_with_item_extended, chop, same_extended, append, full}
 use Rattle.frames.specs.DeclaredFrames.{locals_of, stack_of, has_uninit_this, frame_with}
 use Rattle.frames.specs.declared.refusing.Sizes.{Sizes}
-use Rattle.frames.proofs.StackItems.{units_least}
+use Rattle.frames.proofs.Units.{units_least}
 use Rattle.type_numbers.specs.Constants.{IsTable}
 use Rattle.type_numbers.specs.Numbers.{Numbering}
 use Rattle.type_numbers.specs.declared.constant_table.ConstantTable.{ConstantTable}

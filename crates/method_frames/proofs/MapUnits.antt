@@ -10,7 +10,7 @@ use Rattle.frames.specs.Slots.{units_of}
 use Rattle.frames.specs.MapViews.{info_of}
 use Rattle.frames.specs.DeclaredFrames.{type_given, types_given}
 use Rattle.frames.specs.declared.stack_map.TypeInfo.{TypeInfo}
-use Rattle.frames.proofs.StackItems.{units_append, units_reverse}
+use Rattle.frames.proofs.Units.{units_append, units_reverse}
 use Rattle.type_numbers.specs.Numbers.{Numbering, IsNumber, IsGiven}
 use Rattle.type_numbers.specs.Decoding.{type_by}
 use Rattle.type_numbers.proofs.Decoded.{number_read}

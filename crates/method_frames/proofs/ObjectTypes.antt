@@ -5,8 +5,8 @@ use Rattle.std.proofs.lemmas.Bool.Decides.{nat_tests}
 use Rattle.hierarchy.proofs.Names.{some_same}
 use Rattle.frames.specs.VerificationType.{VerificationType, top, int, float, long, double, null, class, array, uninit_this, uninit}
 use Rattle.frames.specs.Objects.{is_initialized, replaced as type_replaced}
-use Rattle.frames.specs.StackItems.{has_object}
-use Rattle.frames.proofs.LocalTypes.{same_object}
+use Rattle.frames.specs.Objects.{has_object}
+use Rattle.frames.proofs.OneObject.{same_object}
 use Rattle.type_numbers.specs.Numbers.{Numbering, IsNumber, IsGiven, numbered}
 use Rattle.type_numbers.specs.Decoding.{type_by, types_by}
 use Rattle.type_numbers.proofs.Decoded.{number_read, one_type}

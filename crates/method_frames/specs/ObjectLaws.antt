@@ -4,7 +4,7 @@ use Rattle.std.specs.Prelude.{◌≡◌, ℕ, ◌<◌, true, List, map, slice_in
 use Rattle.frames.specs.FrameFact.{FrameFact}
 use Rattle.frames.specs.VerificationType.{VerificationType, uninit_this, uninit}
 use Rattle.frames.specs.Objects.{is_initialized, replaced as type_replaced}
-use Rattle.frames.specs.StackItems.{has_object}
+use Rattle.frames.specs.Objects.{has_object}
 use Rattle.type_numbers.specs.Numbers.{Numbering, IsNumber, IsGiven}
 use Rattle.type_numbers.specs.Decoding.{types_by}
 use Rattle.method_frames.specs.Objects.{own_object, made_object, is_object, holds, replaced}

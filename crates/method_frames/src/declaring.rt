@@ -5,7 +5,7 @@ ghost use Rattle.insn.specs.Offsets.{at_offset};
 ghost use Rattle.frames.specs.VerificationType.{VerificationType};
 ghost use Rattle.frames.specs.FrameAssignable.{width_of};
 ghost use Rattle.frames.specs.MapViews.{info_of, entry_of};
-ghost use Rattle.frames.specs.DeclaredFrames.{type_given, types_given, declared_frames, delta_of, stack_of, frame_with};
+ghost use Rattle.frames.specs.DeclaredFrames.{type_given, types_given, declared_frames, stack_of, frame_with};
 ghost use Rattle.frames.specs.RefusedEntries.{refused_entry};
 ghost use Rattle.frames.specs.Slots.{units_of};
 ghost use Rattle.type_numbers.specs.Constants.{IsTable};
@@ -329,21 +329,6 @@ fn declare_one<St: Starts, C: Classes>(
     Ok(None)
 }
 
-/// The distance of the frame of an entry from the one in front of it, in bytes.
-fn delta(entry: &MapEntry) -> u16
-    ensures { result ≡ delta_of (entry_of entry.now) }
-{
-    match entry {
-        MapEntry::Same(delta) => u16::from(*delta),
-        MapEntry::SameWithItem(delta, _) => u16::from(*delta),
-        MapEntry::SameWithItemExtended(delta, _) => *delta,
-        MapEntry::Chop(_, delta) => *delta,
-        MapEntry::SameExtended(delta) => *delta,
-        MapEntry::Append(delta, _) => *delta,
-        MapEntry::Full(delta, _, _) => *delta,
-    }
-}
-
 /// Declares the frames of entries behind these locals, or tells the first entry that is refused.
 fn declare_all<St: Starts, C: Classes>(
     alloc: Global,
@@ -370,7 +355,7 @@ fn declare_all<St: Starts, C: Classes>(
     let mut behind = 0;
     for place in 0..entries.len() {
         let entry = &entries[place];
-        let at = behind + u32::from(delta(entry));
+        let at = behind + u32::from(entry.delta());
         if let Some(fault) = declare_one(alloc, entry, at, limits, table, locals, frames)? {
             return Ok(Err(RefusedEntry { place, at, fault }));
         }

@@ -86,7 +86,7 @@ impl<'t, 'c, 'n, C: Classes> MethodFrames<'t, 'c, 'n, C> {
     ghost use Rattle.frames.specs.FrameFact.{frame_of};
     ghost use Rattle.frames.specs.VerificationType.{VerificationType, top, uninit};
     ghost use Rattle.frames.specs.Objects.{replaced as type_replaced};
-    ghost use Rattle.frames.specs.StackItems.{has_object};
+    ghost use Rattle.frames.specs.Objects.{has_object};
     ghost use Rattle.type_numbers.specs.Numbers.{IsGiven, IsNumber};
     ghost use Rattle.method_frames.specs.ObjectLaws.{IsObjectType, ObjectBecomes};
     ghost use Rattle.type_numbers.specs.Decoding.{type_by, types_by};

@@ -96,7 +96,7 @@ impl<'t, 'c, 'n, C: Classes> StackRows<'t, 'c, 'n, C> {
     ghost use Rattle.frames.specs.FrameAssignable.{item_answer, stack_answer};
     ghost use Rattle.frames.specs.VerificationType.{VerificationType, type_of};
     ghost use Rattle.frames.specs.Objects.{replaced as type_replaced};
-    ghost use Rattle.frames.specs.StackItems.{has_object};
+    ghost use Rattle.frames.specs.Objects.{has_object};
     ghost use Rattle.type_numbers.specs.Numbers.{Numbering, IsGiven, IsNumber};
     ghost use Rattle.method_frames.specs.ObjectLaws.{IsObjectType};
     ghost use Rattle.type_numbers.specs.Decoding.{type_by, types_by};

@@ -6,7 +6,7 @@ use Rattle.classfile.specs.Methods.{Method}
 use Rattle.insn.specs.Meanings.{Act}
 use Rattle.frames.specs.VerificationType.{VerificationType, top, int, float, long, double, null, class, array, uninit_this, uninit}
 use Rattle.frames.specs.Objects.{is_made_at, is_initialized}
-use Rattle.frames.specs.StackItems.{has_object}
+use Rattle.frames.specs.Objects.{has_object}
 use Rattle.type_numbers.specs.Decoding.{or_top, type_at, type_by, types_by}
 use Rattle.type_numbers.specs.Numbers.{Numbering, IsNumber, IsGiven}
 use Rattle.type_numbers.proofs.Decoded.{number_read, one_type}

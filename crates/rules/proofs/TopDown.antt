@@ -6,7 +6,7 @@ use Rattle.frames.specs.declared.vtype.VType.{VType}
 use Rattle.frames.specs.VerificationType.{VerificationType, type_of}
 use Rattle.frames.specs.FrameAssignable.{width_of}
 use Rattle.frames.specs.Slots.{units_of}
-use Rattle.frames.proofs.StackItems.{units_append, units_reverse}
+use Rattle.frames.proofs.Units.{units_append, units_reverse}
 use Rattle.rules.specs.declared.expected.ExpectedType.{ExpectedType as RawExpectedType}
 use Rattle.rules.specs.Views.{expected_view, stack_of}
 use Rattle.rules.specs.Unmet.{OperandFact, absent_operand, first_of}

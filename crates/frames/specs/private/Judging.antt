@@ -1,22 +1,16 @@
 -- How entries are judged one by one, behind those before them.
-use Rattle.std.specs.Prelude.{◌≡◌, ℕ, zero, suc, ◌≤◌, Bool, List, [], ◌∷◌, Option, Some, None, Result, Ok, Err}
+use Rattle.std.specs.Prelude.{◌≡◌, ℕ, zero, suc, Bool, List, [], ◌∷◌, Option, Some, None, Result, Ok, Err}
 use Rattle.pool.specs.Entries.{Entry}
 use Rattle.insn.specs.Meanings.{Act}
-use Rattle.insn.specs.Offsets.{StartsRise}
 use Rattle.frames.specs.VerificationType.{VerificationType}
-use Rattle.frames.specs.FrameFact.{FrameFact}
-use Rattle.frames.specs.Slots.{units_of}
+use Rattle.frames.specs.FrameFact.{frame_of}
 use Rattle.frames.specs.Conditions.{Reason, reason, Conditions, least}
 use Rattle.frames.specs.FrameReasons.{frame_fault_number, bad_index, wrong_kind, locals_over, stack_over, chop_too_many, not_a_start, not_a_new}
 use Rattle.frames.specs.StackMaps.{TypeInfo, MapEntry}
-use Rattle.frames.specs.DeclaredFrames.{names_nothing, names_no_class, is_made_nowhere, offset_of, locals_of, stack_of, entry_conditions}
-use Rattle.frames.specs.TypeChains.{types_at}
-use Rattle.frames.specs.DeclaredViews.{locals_at, facts_of, AreInside, Made}
-use Rattle.frames.specs.RefusedEntries.{RefusedFact, refused_of}
-use Rattle.frames.specs.declared.chain.Link.{Link}
-use Rattle.frames.specs.declared.frame_tops.FrameTops.{FrameTops}
-use Rattle.frames.specs.declared.declaring.RefusedEntry.{RefusedEntry}
+use Rattle.frames.specs.DeclaredFrames.{names_nothing, names_no_class, is_made_nowhere, locals_of, stack_of, frame_with, entry_conditions}
+use Rattle.frames.specs.declared.frame.Frame.{Frame}
 use Rattle.frames.specs.declared.frame_fault.FrameFault.{FrameFault}
+use Rattle.frames.specs.declared.frame_fault.FrameFault.TheVariants.{OutOfMemory}
 use Rattle.frames.specs.declared.refusing.Wrong.{Wrong}
 use Rattle.frames.specs.declared.refusing.Wrong.TheVariants.{NamesNothing, NamesNoClass, MadeNowhere}
 
@@ -39,45 +33,28 @@ seven_faults a b c d e f g =
     ∷ (reason not_a_new, g)
     ∷ []
 
--- the offset of the entry in front, by the first offset behind it
+-- ---- one entry behind the others
+
+-- the offset of the entry in front of one, by the first offset behind it
 abbrev pub front_of : ℕ → Option ℕ
 front_of zero = None
 front_of (suc n) = Some n
 
--- ---- one entry behind the others
+-- the fault tells this reason, or that memory ran out
+abbrev pub IsToldBy : Option Reason → FrameFault → Type 0
+IsToldBy r OutOfMemory = Unit {0}
+IsToldBy r fault = r ≡ Some (reason (frame_fault_number fault))
 
--- the least reason against an entry, by the first offset behind those in front and the locals that they leave
-abbrev pub against : List Entry → List (ℕ × Act) → ℕ → ℕ → ℕ → List VerificationType → MapEntry → Option Reason
-against pool code max_locals max_stack behind ts e =
-    least (entry_conditions pool code max_locals max_stack (offset_of (front_of behind) e) e ts (locals_of pool ts e)
-    (stack_of pool e))
+module _ (pool : List Entry) (code : List (ℕ × Act)) (max_locals max_stack : ℕ) where
+  -- the least reason against an entry at an offset, behind locals of these types
+  abbrev pub against : ℕ → List VerificationType → MapEntry → Option Reason
+  against at ts e = least (entry_conditions pool code max_locals max_stack at e ts (locals_of pool ts e) (stack_of pool e))
 
--- it is not refused, and its frame is there
-pub record Declared (pool : List Entry) (code : List (ℕ × Act)) (max_locals max_stack : ℕ) (old new : List Link)
-    (behind before : ℕ) (e : MapEntry) (f : FrameTops) : Type 0 where
-  pub free : against pool code max_locals max_stack behind (locals_at old before) e ≡ None
-  pub at : f.at ≡ offset_of (front_of behind) e
-  pub units : units_of (types_at new f.locals) ≤ max_locals
-  pub made : Made pool old new before e f
+  -- it is not refused, and this is its frame
+  pub record IsDeclared (at : ℕ) (ts : List VerificationType) (e : MapEntry) (f : Frame) : Type 0 where
+    pub free : against at ts e ≡ None
+    pub frame : frame_of f ≡ frame_with pool code max_locals max_stack (locals_of pool ts e) (stack_of pool e)
 
-abbrev pub Declares : List Entry → List (ℕ × Act) → ℕ → ℕ → List Link → List Link → ℕ → ℕ → MapEntry
-    → Result FrameTops FrameFault → Type 0
-Declares pool code max_locals max_stack old new behind before e (Ok f) =
-    Declared pool code max_locals max_stack old new behind before e f
-Declares pool code max_locals max_stack old new behind before e (Err fault) =
-    against pool code max_locals max_stack behind (locals_at old before) e ≡ Some (reason (frame_fault_number fault))
-
--- ---- all of them
-
--- the entry that is refused, if one is
-abbrev pub refused_by : {A : Type 0} → Result A RefusedEntry → Option RefusedFact
-refused_by (Ok u) = None
-refused_by (Err refused) = Some (refused_of refused)
-
-abbrev pub AreDeclared : {A : Type 0} → Result (List (ℕ × FrameFact)) Reason → ℕ → List Link → List FrameTops
-    → Result A RefusedEntry → Type 0
-AreDeclared answer max_locals links frames (Ok u) =
-    (answer ≡ Ok (facts_of links max_locals frames)) × AreInside links max_locals frames
-    × StartsRise 0 (facts_of links max_locals frames)
-AreDeclared answer max_locals links frames (Err refused) =
-    answer ≡ Err (reason (frame_fault_number refused.fault))
+  abbrev pub Declares : ℕ → List VerificationType → MapEntry → Result Frame FrameFault → Type 0
+  Declares at ts e (Ok f) = IsDeclared at ts e f
+  Declares at ts e (Err fault) = IsToldBy (against at ts e) fault

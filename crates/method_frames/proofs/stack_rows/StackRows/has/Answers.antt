@@ -1,5 +1,5 @@
 use Rattle.std.proofs.Common.{◌≡◌, ◌∙◌, subst}
-use Rattle.frames.specs.StackItems.{has_object}
+use Rattle.frames.specs.Objects.{has_object}
 use Rattle.frames.specs.VerificationType.{VerificationType}
 use Rattle.type_numbers.specs.Numbers.{IsNumber}
 use Rattle.type_numbers.specs.Decoding.{types_by}

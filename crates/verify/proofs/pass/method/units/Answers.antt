@@ -1,7 +1,7 @@
 use Rattle.std.proofs.Common.{◌∙◌, [], ◌∷◌, get_or, take, ap, arith}
 use Rattle.std.proofs.lemmas.List.{take_more, take_all, map-append}
 use Rattle.frames.specs.Slots.{units_of}
-use Rattle.frames.proofs.StackItems.{units_append}
+use Rattle.frames.proofs.Units.{units_append}
 use Rattle.type_numbers.specs.Decoding.{type_by, types_by}
 use Rattle.verify.proofs.pass.method.units.Goals as goal
 
