@@ -1,6 +1,7 @@
 //! A method with code: its stack map, its exception table, and then its code.
-ghost use Rattle.std.specs.Prelude.{◌≡◌, ◌≤◌, ◌<◌, ℕ, List, length, map, slice_index, Ok, IfOk, IfErr};
+ghost use Rattle.std.specs.Prelude.{◌≡◌, ◌≢◌, ◌≤◌, ◌<◌, ℕ, List, length, map, slice_index, Ok, IfOk, IfErr};
 ghost use Rattle.layout.specs.declared.limits.TheConstants.{MAX_CODE_BYTES};
+ghost use Rattle.layout.specs.declared.fault.ReadFault.TheVariants as reading;
 ghost use Rattle.insn.specs.Instructions.{Instruction};
 ghost use Rattle.insn.specs.Code.{SpellsCode};
 ghost use Rattle.frames.specs.FrameAssignable.{width_of};
@@ -16,6 +17,7 @@ ghost use Rattle.rules.specs.Table.{typing_rule};
 ghost use Rattle.verify.specs.InitialFrames.{initial_types, initial_frame};
 ghost use Rattle.verify.specs.Verdict.{entries_read, verdict, with_frames};
 ghost use Rattle.verify.specs.private.JudgingSteps.{Gives};
+ghost use Rattle.verify.specs.declared.stack_maps.MapRefusal.TheVariants as refusals;
 ghost use Rattle.verify.specs.declared.verdict.VerifyFault.TheVariants.{OutOfMemory};
 ghost use Rattle.verify.specs.private.pass.Maps.{DeclaresMap, IsFresh, BeginsWith};
 
@@ -83,6 +85,17 @@ fn declare_entries<'a, C: Classes>(
     }
 }
 
+/// The refusal of a stack map for a fault of its bytes; 1 where memory ran out.
+fn unreadable(fault: ReadFault) -> Result<MapRefusal, VerifyFault>
+    ensures told { IfOk result (λ why. (fault ≢ reading.OutOfMemory) × (why ≡ refusals.Unreadable fault)) }
+    ensures memory { IfErr result (λ e. e ≡ OutOfMemory) }
+{
+    match fault {
+        ReadFault::OutOfMemory => Err(VerifyFault::OutOfMemory),
+        _ => Ok(MapRefusal::Unreadable(fault)),
+    }
+}
+
 /// Declares the frames of a method's stack map (JVMS 4.7.4), none where it has no map, and makes the running frame the
 /// one with which the method begins; or tells why the map is refused. The only other refusal is 1, where memory runs
 /// out.
@@ -107,8 +120,7 @@ pub fn declare_map<'a, C: Classes>(
     };
     let map = match read_map(alloc, bytes) {
         Ok(map) => map,
-        Err(ReadFault::OutOfMemory) => return Err(VerifyFault::OutOfMemory),
-        Err(fault) => return Ok(Err(MapRefusal::Unreadable(fault))),
+        Err(fault) => return Ok(Err(unreadable(fault)?)),
     };
     let declared = declare_entries(alloc, map.entries(), body, initial, frames)?;
     Ok(declared)

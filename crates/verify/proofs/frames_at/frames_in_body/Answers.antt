@@ -52,8 +52,8 @@ returns-in-Ok-clause-found g c =
     let all = frames_are y.types.classes m (frames_by y.types y.declared) n at wide told.0 (held y) told.1 ∙ ap (λ (s : Numbering). frames_at typing_rule s.classes m n at) same in
     subst (λ (z : FramesFact). IfOk c.walk.result (λ k. frames_view k ≡ z)) all c.walk.ensures.found
 
-pub returns-in-Err-clause-found : goal.returns-in-Err-clause-found
-returns-in-Err-clause-found g c =
+pub returns-in_ok-map_detail-in-Err-clause-found : goal.returns-in_ok-map_detail-in-Err-clause-found
+returns-in_ok-map_detail-in-Err-clause-found g c =
     let x = c.args.frames.now in
     let y = c.declare_map.new.frames in
     let m = method_view c.args.body.now.method.now in
@@ -62,5 +62,5 @@ returns-in-Err-clause-found g c =
     let long : c.units.result ≡ length (in_locals (initial_types m)) = c.units.ensures x.types ∙ ap units_of c.requires.initial ∙ units_are (initial_types m) in
     let wide : nat_lt m.max_locals (length (in_locals (initial_types m))) ≡ false = grind (arith, nat_tests, long, c.from.ensures, c.if-units-from.false) in
     let told = subst (DeclaresMap y m (entries_read m.stack_map)) c.in-Err.is c.in_ok-declare_map.ensures.told in
-    ap (λ (o : Option DetailFact). let all : FramesFact = record { coming = None; declared = None; detail = o } in all) (c.in_ok-map_detail.ensures ∙ sym told.1)
+    ap (λ (o : Option DetailFact). let all : FramesFact = record { coming = None; declared = None; detail = o } in all) (c.in_ok-map_detail-in-Err.ensures ∙ sym told.1)
     ∙ map_is x.types.classes m (refusal_of c.in-Err.why) n at wide told.0

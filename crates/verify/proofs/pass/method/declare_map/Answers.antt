@@ -11,8 +11,10 @@ pub returns-in-Err-clause-told : goal.returns-in-Err-clause-told
 returns-in-Err-clause-told g c =
     let m = method_view c.args.body.now.method.now in
     let here : m.stack_map ≡ Some c.in-Some.bytes.now = sym c.stack_map.ensures ∙ ap (option_map (λ b. b.now)) c.in-Some.is in
-    let read = unreadable_map m c.in-Some.bytes.now here c.in-Err.fault (fault_told c.in-Err.fault _ c.in-Err.not c.in-Err.ensures.fault) in
-    subst (λ r. DeclaresMap c.args.frames.now m r (Err (Unreadable c.in-Err.fault))) (sym read) (refl, refl)
+    let told = c.in_ok-unreadable-in-Err.ensures.told in
+    let read = unreadable_map m c.in-Some.bytes.now here c.in-Err.fault (fault_told c.in-Err.fault _ told.0 c.in-Err.ensures.fault) in
+    let refused : DeclaresMap c.args.frames.now m (entries_read m.stack_map) (Err (Unreadable c.in-Err.fault)) = subst (λ r. DeclaresMap c.args.frames.now m r (Err (Unreadable c.in-Err.fault))) (sym read) (refl, refl) in
+    subst (λ why. DeclaresMap c.args.frames.now m (entries_read m.stack_map) (Err why)) (sym told.1) refused
 
 pub returns-clause-told : goal.returns-clause-told
 returns-clause-told g c =
