@@ -1,5 +1,5 @@
 -- The frame with which a method begins.
-use Rattle.std.proofs.Common.{◌≡◌, ◌∙◌, ℕ, false, ◌||◌, List, [], ◌∷◌, ◌++◌, map, refl, ap}
+use Rattle.std.proofs.Common.{◌≡◌, ◌∙◌, false, ◌||◌, List, [], ◌∷◌, ◌++◌, map, refl, ap}
 use Rattle.names.specs.Descriptors.{FieldDescriptor, primitive, class, array}
 use Rattle.classfile.specs.Methods.{Method, Receiver, no_receiver, ready_receiver, own_receiver, receiver_of}
 use Rattle.insn.specs.Meanings.{Act}
