@@ -14,7 +14,6 @@ use Rattle.insn.specs.Readings.{Reading, behind}
 use Rattle.insn.specs.Views.{act_located}
 use Rattle.insn.proofs.CodeLaws.{has_bytes, told_step}
 use Rattle.insn.proofs.Readings.{reading_at, step_reads, end_reads, some_left}
-use Rattle.frames.specs.VerificationType.{VerificationType}
 use Rattle.frames.specs.FrameFact.{FrameFact}
 use Rattle.frames.specs.Conditions.{Reason, Conditions, least}
 use Rattle.rules.specs.TypingRules.{falls}

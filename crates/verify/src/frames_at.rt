@@ -25,6 +25,7 @@ ghost use Rattle.rules.specs.Table.{typing_rule};
 ghost use Rattle.verify.specs.declared.verdict.VerifyFault.TheVariants.{OutOfMemory};
 ghost use Rattle.verify.specs.InitialFrames.{initial_types};
 ghost use Rattle.verify.specs.Coming.{no_frames, frames_with, before, met_before, frame_if, going, met, frames_at, frames_view, frame_size, frames_size, AreFramesOf};
+ghost use Rattle.verify.specs.private.Ready.{IsReady};
 ghost use Rattle.verify.specs.private.pass.ClassTypes.{AreClassTypes};
 
 use crate::detail::{Detail, RefusedAt, detail_at};
@@ -131,10 +132,7 @@ fn go_on<'a, C: Classes>(
     constants: &mut ClassConstants<'_, '_, 'a, C>,
     frames: &mut MethodFrames<'_, '_, 'a, C>,
 ) -> Result<bool, VerifyFault>
-    requires constants { constants.old.members
-        ≡ record { class = body.now.method.now.class.now; classes = frames.old.types.classes } }
-    requires locals { length frames.old.running.locals ≡ body.now.method.now.code.now.max_locals }
-    requires numbers { AreRuleNumbers frames.old.types (method_view body.now.method.now) body.now.numbers }
+    requires { IsReady body.now constants.old.members frames.old }
     ensures same { constants.new.members ≡ constants.old.members }
     ensures goes { let m = method_view body.now.method.now in
         IfOk result (λ goes. frame_if goes (held frames.new)
@@ -177,10 +175,7 @@ fn step<'a, C: Classes>(
     constants: &mut ClassConstants<'_, '_, 'a, C>,
     frames: &mut MethodFrames<'_, '_, 'a, C>,
 ) -> Result<bool, VerifyFault>
-    requires constants { constants.old.members
-        ≡ record { class = body.now.method.now.class.now; classes = frames.old.types.classes } }
-    requires locals { length frames.old.running.locals ≡ body.now.method.now.code.now.max_locals }
-    requires numbers { AreRuleNumbers frames.old.types (method_view body.now.method.now) body.now.numbers }
+    requires { IsReady body.now constants.old.members frames.old }
     ensures same { constants.new.members ≡ constants.old.members }
     ensures goes { let m = method_view body.now.method.now in let x = frames.old in
         IfOk result (λ goes. frame_if goes (held frames.new)
@@ -237,10 +232,7 @@ fn meet<'a, C: Classes>(
     constants: &mut ClassConstants<'_, '_, 'a, C>,
     frames: &mut MethodFrames<'_, '_, 'a, C>,
 ) -> Result<FramesAt<'a>, AllocError>
-    requires constants { constants.old.members
-        ≡ record { class = body.now.method.now.class.now; classes = frames.old.types.classes } }
-    requires locals { length frames.old.running.locals ≡ body.now.method.now.code.now.max_locals }
-    requires numbers { AreRuleNumbers frames.old.types (method_view body.now.method.now) body.now.numbers }
+    requires { IsReady body.now constants.old.members frames.old }
     ensures same { constants.new.members ≡ constants.old.members }
     ensures found { let m = method_view body.now.method.now in let a = act_view refused.entry.act in
         let x = frames.old in let declared = frames_by x.types x.declared in IfOk result (λ met. frames_view met
@@ -268,10 +260,7 @@ fn walk<'a, C: Classes>(
     constants: &mut ClassConstants<'_, '_, 'a, C>,
     frames: &mut MethodFrames<'_, '_, 'a, C>,
 ) -> Result<FramesAt<'a>, VerifyFault>
-    requires constants { constants.old.members
-        ≡ record { class = body.now.method.now.class.now; classes = frames.old.types.classes } }
-    requires locals { length frames.old.running.locals ≡ body.now.method.now.code.now.max_locals }
-    requires numbers { AreRuleNumbers frames.old.types (method_view body.now.method.now) body.now.numbers }
+    requires ready { IsReady body.now constants.old.members frames.old }
     requires spelled { (xs : List (ℕ × Instruction)) × SpellsCode 0 body.now.method.now.code.now.code.now xs }
     requires few { length body.now.method.now.code.now.code.now ≤ MAX_CODE_BYTES }
     ensures same { constants.new.members ≡ constants.old.members }

@@ -1,5 +1,5 @@
 -- The verdict on a method, step by step.
-use Rattle.std.proofs.Common.{◌≡◌, ℕ, true, false, nat_lt, List, length, Some, Err, refl, ap}
+use Rattle.std.proofs.Common.{◌≡◌, true, false, nat_lt, List, length, Some, Err, refl, ap}
 use Rattle.classfile.specs.Methods.{Method}
 use Rattle.hierarchy.specs.Class.{ClassFact}
 use Rattle.insn.specs.Meanings.{Act}
