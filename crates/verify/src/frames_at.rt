@@ -1,6 +1,6 @@
 //! The frames at the instruction at which a method is refused: the one that comes to it, and the one that is declared
 //! there; and what is wrong.
-ghost use Rattle.std.specs.Prelude.{◌≡◌, ◌≢◌, ◌<◌, ◌≤◌, ◌-◌, ℕ, false, Ok, Some, List, length, map, option_map, slice_index, IfOk, IfErr};
+ghost use Rattle.std.specs.Prelude.{◌≡◌, ◌≢◌, ◌<◌, ◌≤◌, ◌-◌, ℕ, false, Ok, Some, List, length, option_map, slice_index, IfOk, IfErr};
 ghost use Rattle.std.specs.Option.{option_map_or};
 ghost use Rattle.layout.specs.declared.limits.TheConstants.{MAX_CODE_BYTES};
 ghost use Rattle.classfile.specs.CodeMethods.{class_of};
