@@ -1,5 +1,5 @@
 -- The reading of a stack map's bytes, by what they spell and by their fault.
-use Rattle.std.proofs.Common.{◌≡◌, ℕ, ◌+◌, Bool, false, nat_eq, if◌then◌else◌, List, length, Option, Some, Result, Ok, Err, refl, sym, ◌∙◌, ap, subst, arith, inl, inr}
+use Rattle.std.proofs.Common.{◌≡◌, ℕ, ◌+◌, Bool, false, nat_eq, if◌then◌else◌, List, length, Some, Result, Ok, Err, refl, sym, ◌∙◌, ap, subst, arith, inl, inr}
 use Rattle.std.proofs.lemmas.Bool.Decides.{nat_tests}
 use Rattle.layout.specs.FormatLaws.{spelled_reads, fault_reads}
 use Rattle.layout.specs.declared.fault.ReadFault.{ReadFault}
@@ -7,21 +7,10 @@ use Rattle.layout.specs.declared.fault.ReadFault.TheVariants.{OutOfMemory, Attri
 use Rattle.layout.specs.Faults.{UnlessMemory}
 use Rattle.layout.specs.Whole.{HasMore}
 use Rattle.frames.specs.StackMaps.{MapEntry, IsMap, stack_map, MapFault}
-use Rattle.frames.specs.VerificationType.{VerificationType}
-use Rattle.frames.specs.Conditions.{Reason}
-use Rattle.frames.specs.DeclaredFrames.{declared_frames}
 use Rattle.classfile.specs.Methods.{Method}
 use Rattle.insn.specs.Meanings.{Act}
-use Rattle.verify.specs.InitialFrames.{initial_types}
-use Rattle.verify.specs.TypeSafety.{Frames}
 use Rattle.verify.proofs.Premises.{entries_there}
-use Rattle.std.specs.Prelude.{◌≢◌, IfOk}
-use Rattle.std.specs.Option.{option_and_then, option_map}
-use Rattle.frames.specs.RefusedEntries.{refused_entry}
-use Rattle.verify.specs.declared.detail.Detail.{Detail}
-use Rattle.verify.specs.declared.verdict.VerifyFault.{VerifyFault}
-use Rattle.verify.specs.Details.{DetailFact, refused_detail, faulty_detail, map_detail_of, map_detail, detail_of}
-use Rattle.verify.specs.Verdict.{unreadable, all_entries, entries_read, or_undeclared, frames_of, frames_declared}
+use Rattle.verify.specs.Verdict.{all_entries, entries_read}
 
 more_there : (body : List ℕ) (at : ℕ) → HasMore stack_map body at → entries_read (Some body) ≡ Err (AttributeLength at)
 more_there body at h =
@@ -37,42 +26,14 @@ pub fault_there : (body : List ℕ) (fault : ReadFault) → MapFault body fault 
 fault_there body fault (inl f) = ap all_entries (fault_reads stack_map 0 body fault f)
 fault_there body fault (inr x) = more_there body x.0 x.2 ∙ ap (λ (z : ReadFault). Err z) (sym x.1)
 
--- ---- the frames that a method's stack map declares
-
-module _ (m : Method Act) (body : List ℕ) (here : m.stack_map ≡ Some body) where
-  read_here : frames_declared m ≡ frames_of m (entries_read (Some body))
-  read_here = ap (λ o. frames_of m (entries_read o)) here
-
-  pub unreadable_map : (fault : ReadFault) → MapFault body fault → frames_declared m ≡ Err (unreadable fault)
-  unreadable_map fault f = read_here ∙ ap (frames_of m) (fault_there body fault f)
-
-  pub readable_map : (entries : List MapEntry) (initial : List VerificationType) (r : Result Frames Reason) → IsMap body entries → initial ≡ initial_types m
-      → declared_frames m.constant_pool m.code m.max_locals m.max_stack initial entries ≡ r → frames_declared m ≡ or_undeclared r
-  readable_map entries initial r spelled same declared =
-      read_here ∙ ap (frames_of m) (entries_there (Some body) entries spelled)
-      ∙ ap (λ ts. or_undeclared (declared_frames m.constant_pool m.code m.max_locals m.max_stack ts entries)) (sym same)
-      ∙ ap or_undeclared declared
-
 pub fault_told : (e : ReadFault) (P : Type 0) → (e ≡ OutOfMemory → ⊥) → UnlessMemory e P → P
 fault_told OutOfMemory P f u = absurd (f refl)
 fault_told _ P f u = u
 
--- ---- the entry for which it is refused
-
+-- the bytes of a method's stack map
 module _ (m : Method Act) (body : List ℕ) (here : m.stack_map ≡ Some body) where
-  abbrev read_as : Option (List ℕ) → Option DetailFact
-  read_as o = map_detail_of m (entries_read o)
+  pub unreadable_map : (fault : ReadFault) → MapFault body fault → entries_read m.stack_map ≡ Err fault
+  unreadable_map fault f = ap entries_read here ∙ fault_there body fault f
 
-  faulty_map : (fault : ReadFault) → MapFault body fault → map_detail m ≡ faulty_detail body
-  faulty_map fault f = ap read_as here ∙ ap (map_detail_of m) (fault_there body fault f) ∙ ap (option_and_then faulty_detail) here
-
-  pub faulty_found : (fault : ReadFault) (r : Result (Option Detail) VerifyFault) → UnlessMemory fault (MapFault body fault)
-      → IfOk r (λ o. (fault ≢ OutOfMemory) × (option_map detail_of o ≡ faulty_detail body)) → IfOk r (λ o. option_map detail_of o ≡ map_detail m)
-  faulty_found fault (Ok o) u p = p.1 ∙ sym (faulty_map fault (fault_told fault (MapFault body fault) p.0 u))
-  faulty_found fault (Err e) u p = tt
-
-  pub refused_found : (entries : List MapEntry) (initial : List VerificationType) → IsMap body entries → initial ≡ initial_types m
-      → option_map refused_detail (refused_entry m.constant_pool m.code m.max_locals m.max_stack initial entries) ≡ map_detail m
-  refused_found entries initial spelled same =
-      ap (λ ts. option_map refused_detail (refused_entry m.constant_pool m.code m.max_locals m.max_stack ts entries)) same
-      ∙ sym (ap read_as here ∙ ap (map_detail_of m) (entries_there (Some body) entries spelled))
+  pub readable_map : (entries : List MapEntry) → IsMap body entries → entries_read m.stack_map ≡ Ok entries
+  readable_map entries spelled = ap entries_read here ∙ entries_there (Some body) entries spelled

@@ -18,7 +18,11 @@ use Rattle.type_numbers.specs.Numbers.{Numbering}
 use Rattle.method_frames.specs.MapFrames.{frames_by}
 use Rattle.method_frames.specs.NumberedFrames.{NumberedFrames}
 use Rattle.numbered_rules.specs.Held.{held, IsRunning}
+use Rattle.numbered_rules.specs.Running.{AreRuleNumbers}
+use Rattle.numbered_rules.specs.declared.body.Body.{Body}
 use Rattle.numbered_rules.proofs.Taking.{types_stay}
+use Rattle.rules.specs.Bodies.{method_view}
+use Rattle.rules.specs.Guards.{Surroundings}
 use Rattle.rules.specs.TypingRules.{TypingRule, falls}
 use Rattle.rules.specs.Table.{typing_rule}
 use Rattle.rules.specs.After.{after}
@@ -34,6 +38,7 @@ use Rattle.verify.specs.Verdict.{MapRefusal, frames_declared}
 use Rattle.verify.specs.Coming.{FramesFact, frames_with, before, frame_if, going, met, met_under, without_map, frames_at}
 use Rattle.verify.specs.Details.{DetailFact, detail_at}
 use Rattle.verify.specs.private.Ran.{IsIf}
+use Rattle.verify.specs.private.Ready.{IsReady}
 use Rattle.verify.proofs.Declared.{full_length}
 use Rattle.verify.proofs.Going.{ways}
 use Rattle.verify.proofs.Premises.{not_at}
@@ -152,3 +157,13 @@ pub record Walks (classes : List ClassFact) (m : Method Act) (frames : Frames) (
   pub read : reading_at p ≡ Ok instructions
   pub same : total ≡ met_at classes m frames reason at (acts instructions) coming
   pub within : p.at + length p.rest ≡ size
+
+-- where the running frame alone is another, the next instruction can be run
+pub ready_still : (body : Body) (was is : Surroundings) (old now : NumberedFrames) → is ≡ was → IsRunning old now → IsReady body was old → IsReady body is now
+ready_still body was is old now same run r =
+    let types = types_stay old now run in
+    record {
+      constants = same ∙ r.constants ∙ ap (λ (s : Numbering). let all : Surroundings = record { class = body.method.now.class.now; classes = s.classes } in all) (sym types);
+      locals = run.size ∙ r.locals;
+      numbers = subst (λ s. AreRuleNumbers s (method_view body.method.now) body.numbers) (sym types) r.numbers;
+    }

@@ -1,6 +1,6 @@
 -- The pass, from one instruction to the next.
-use Rattle.std.proofs.Common.{◌≡◌, ℕ, zero, suc, ◌+◌, ◌<◌, Bool, true, false, is_none, nat_eq, List, [], ◌∷◌, ◌⊎◌, inl, inr, subst, Result, Ok, Err, Option, Some, length, refl, sym, ◌∙◌, ap, arith, if◌then◌else◌}
-use Rattle.std.proofs.lemmas.List.{length-map, length-append, nil_from_length}
+use Rattle.std.proofs.Common.{◌≡◌, ℕ, ◌+◌, ◌<◌, Bool, true, false, is_none, nat_eq, List, [], ◌∷◌, ◌⊎◌, inl, inr, subst, Result, Ok, Err, Option, Some, length, refl, sym, ◌∙◌, ap, arith}
+use Rattle.std.proofs.lemmas.List.{length-append, nil_from_length}
 use Rattle.std.proofs.lemmas.Bool.Decides.{nat_tests}
 use Rattle.classfile.specs.Methods.{Method}
 use Rattle.hierarchy.specs.Class.{ClassFact}
@@ -14,13 +14,11 @@ use Rattle.insn.specs.Readings.{Reading, behind}
 use Rattle.insn.specs.Views.{act_located}
 use Rattle.insn.proofs.CodeLaws.{has_bytes, told_step}
 use Rattle.insn.proofs.Readings.{reading_at, step_reads, end_reads, some_left}
-use Rattle.frames.specs.VerificationType.{VerificationType}
 use Rattle.frames.specs.FrameFact.{FrameFact}
-use Rattle.frames.specs.Slots.{is_wide}
 use Rattle.frames.specs.Conditions.{Reason, Conditions, least}
-use Rattle.rules.specs.TypingRules.{TypingRule, pops, loads, stores, counts, rearranges, loads_element, makes, constructs, calls_special, returns, refuses, falls}
+use Rattle.rules.specs.TypingRules.{falls}
 use Rattle.rules.specs.Table.{typing_rule}
-use Rattle.rules.specs.After.{top_first, stored_type, after}
+use Rattle.rules.specs.After.{after}
 use Rattle.rules.specs.Outcomes.{Done}
 use Rattle.rules.specs.Ways.{goes_on as act_goes_on}
 use Rattle.rules.specs.Reasons.{reason_view}
@@ -30,38 +28,6 @@ use Rattle.verify.specs.TypeSafety.{Frames}
 use Rattle.verify.specs.Verdict.{Verdict, refused, told_of, refused_or, at_conditions, entry, entered, arrives, passes}
 use Rattle.verify.specs.private.JudgingSteps.{Enters}
 use Rattle.verify.proofs.Going.{ways}
-
--- ---- the number of locals stays
-
-top_length : (xs : List VerificationType) → length (top_first xs) ≡ length xs
-top_length [] = refl
-top_length (x ∷ xs) = refl
-
-if_length : (b : Bool) (xs : List VerificationType) → length (if b then top_first xs else xs) ≡ length xs
-if_length true xs = top_length xs
-if_length false xs = refl
-
-stored_length : (t : VerificationType) (n : ℕ) (xs : List VerificationType) → length (stored_type t n xs) ≡ length xs
-stored_length t n [] = refl
-stored_length t zero (x ∷ xs) = ap suc (if_length (is_wide t) xs)
-stored_length t (suc zero) (x ∷ xs) = ap suc (stored_length t zero xs)
-stored_length t (suc (suc n)) (x ∷ xs) = ap suc (stored_length t (suc n) xs)
-
-after_length : (m : Method Act) (at : ℕ) (p : TypingRule) (f : FrameFact) → length (after m at p f).locals ≡ length f.locals
-after_length m at (pops expected_types gives offsets on) f = refl
-after_length m at (loads expected n width) f = refl
-after_length m at (stores expected n width) f = stored_length _ n f.locals
-after_length m at (counts n) f = refl
-after_length m at (rearranges forms) f = refl
-after_length m at loads_element f = refl
-after_length m at (makes name) f = length-map f.locals _
-after_length m at (constructs name expected_types) f = length-map f.locals _
-after_length m at (calls_special type expected_types gives) f = refl
-after_length m at returns f = refl
-after_length m at (refuses n) f = refl
-
-pub keeps_length : (m : Method Act) (at : ℕ) (p : TypingRule) (old now : FrameFact) (n : ℕ) → length old.locals ≡ n → now ≡ after m at p old → length now.locals ≡ n
-keeps_length m at p old now n e q = ap (λ (z : FrameFact). length z.locals) q ∙ after_length m at p old ∙ e
 
 -- ---- the code that is left
 

@@ -9,6 +9,7 @@ pub mod MetNames
 pub mod PlaceSets
 pub mod PlaySteps
 pub mod Ran
+pub mod Ready
 pub mod SameSummaries
 pub mod Targets
 pub mod TogetherSteps

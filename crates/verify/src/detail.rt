@@ -1,6 +1,6 @@
 //! The detail at fault where a method is refused, by the reason: the comparison of types that fails, or that asks for a
 //! class that is missing, or an entry of the exception table.
-ghost use Rattle.std.specs.Prelude.{◌≡◌, ◌⊎◌, ◌≢◌, Some, None, length, option_map, MatchResult, IfOk};
+ghost use Rattle.std.specs.Prelude.{◌≡◌, ◌⊎◌, ◌≢◌, Some, None, option_map, MatchResult, IfOk};
 ghost use Rattle.classfile.specs.Methods.{Method};
 ghost use Rattle.insn.specs.Meanings as meanings;
 ghost use Rattle.insn.specs.Views.{act_view};
@@ -25,6 +25,7 @@ ghost use Rattle.verify.specs.Details.{taken, is_class_asked, arriving_if, targe
 ghost use Rattle.verify.specs.Details as details;
 ghost use Rattle.verify.specs.DifferencesAt.{at_targets};
 ghost use Rattle.verify.specs.private.Ran.{IsBy, HasRun, IsIf, detail_in};
+ghost use Rattle.verify.specs.private.Ready.{IsReady};
 
 use crate::difference_at::{
     DifferenceAt, handler_difference, sought_difference, target_difference,
@@ -234,10 +235,7 @@ fn run_rule<'a, C: Classes>(
     constants: &mut ClassConstants<'_, '_, 'a, C>,
     frames: &mut MethodFrames<'_, '_, 'a, C>,
 ) -> Result<Ran, AllocError>
-    requires constants { constants.old.members
-        ≡ record { class = body.now.method.now.class.now; classes = frames.old.types.classes } }
-    requires locals { length frames.old.running.locals ≡ body.now.method.now.code.now.max_locals }
-    requires numbers { AreRuleNumbers frames.old.types (method_view body.now.method.now) body.now.numbers }
+    requires { IsReady body.now constants.old.members frames.old }
     ensures same { constants.new.members ≡ constants.old.members }
     ensures ran { let m = method_view body.now.method.now in let p = typing_rule m (act_view refused.entry.act) in
         let x = frames.old in IfOk result (λ ran.
@@ -277,10 +275,7 @@ fn target_if<'a, C: Classes>(
     constants: &mut ClassConstants<'_, '_, 'a, C>,
     frames: &mut MethodFrames<'_, '_, 'a, C>,
 ) -> Result<Option<Detail<'a>>, AllocError>
-    requires constants { constants.old.members
-        ≡ record { class = body.now.method.now.class.now; classes = frames.old.types.classes } }
-    requires locals { length frames.old.running.locals ≡ body.now.method.now.code.now.max_locals }
-    requires numbers { AreRuleNumbers frames.old.types (method_view body.now.method.now) body.now.numbers }
+    requires { IsReady body.now constants.old.members frames.old }
     ensures same { constants.new.members ≡ constants.old.members }
     ensures found { let m = method_view body.now.method.now in let x = frames.old in
         IfOk result (λ o. option_map detail_of o
@@ -369,10 +364,7 @@ fn unknown_in<'a, C: Classes>(
     constants: &mut ClassConstants<'_, '_, 'a, C>,
     frames: &mut MethodFrames<'_, '_, 'a, C>,
 ) -> Result<Option<Detail<'a>>, AllocError>
-    requires constants { constants.old.members
-        ≡ record { class = body.now.method.now.class.now; classes = frames.old.types.classes } }
-    requires locals { length frames.old.running.locals ≡ body.now.method.now.code.now.max_locals }
-    requires numbers { AreRuleNumbers frames.old.types (method_view body.now.method.now) body.now.numbers }
+    requires ready { IsReady body.now constants.old.members frames.old }
     requires before { frame_of before.now ≡ held frames.old }
     ensures same { constants.new.members ≡ constants.old.members }
     ensures found { let m = method_view body.now.method.now in let x = frames.old in
@@ -406,10 +398,7 @@ fn unknown_if<'a, C: Classes>(
     constants: &mut ClassConstants<'_, '_, 'a, C>,
     frames: &mut MethodFrames<'_, '_, 'a, C>,
 ) -> Result<Option<Detail<'a>>, AllocError>
-    requires constants { constants.old.members
-        ≡ record { class = body.now.method.now.class.now; classes = frames.old.types.classes } }
-    requires locals { length frames.old.running.locals ≡ body.now.method.now.code.now.max_locals }
-    requires numbers { AreRuleNumbers frames.old.types (method_view body.now.method.now) body.now.numbers }
+    requires ready { IsReady body.now constants.old.members frames.old }
     requires before { IsIf (met_before (frames_view met.now)) (held frames.old) }
     ensures same { constants.new.members ≡ constants.old.members }
     ensures found { let m = method_view body.now.method.now in let x = frames.old in
@@ -442,10 +431,7 @@ fn detail_in<'a, C: Classes>(
     constants: &mut ClassConstants<'_, '_, 'a, C>,
     frames: &mut MethodFrames<'_, '_, 'a, C>,
 ) -> Result<Option<Detail<'a>>, AllocError>
-    requires constants { constants.old.members
-        ≡ record { class = body.now.method.now.class.now; classes = frames.old.types.classes } }
-    requires locals { length frames.old.running.locals ≡ body.now.method.now.code.now.max_locals }
-    requires numbers { AreRuleNumbers frames.old.types (method_view body.now.method.now) body.now.numbers }
+    requires ready { IsReady body.now constants.old.members frames.old }
     requires before { frame_of before.now ≡ held frames.old }
     ensures same { constants.new.members ≡ constants.old.members }
     ensures found { let m = method_view body.now.method.now in let x = frames.old in
@@ -478,10 +464,7 @@ pub fn detail_at<'a, C: Classes>(
     constants: &mut ClassConstants<'_, '_, 'a, C>,
     frames: &mut MethodFrames<'_, '_, 'a, C>,
 ) -> Result<Option<Detail<'a>>, AllocError>
-    requires constants { constants.old.members
-        ≡ record { class = body.now.method.now.class.now; classes = frames.old.types.classes } }
-    requires locals { length frames.old.running.locals ≡ body.now.method.now.code.now.max_locals }
-    requires numbers { AreRuleNumbers frames.old.types (method_view body.now.method.now) body.now.numbers }
+    requires ready { IsReady body.now constants.old.members frames.old }
     requires before { IsIf (met_before (frames_view met.now)) (held frames.old) }
     ensures same { constants.new.members ≡ constants.old.members }
     ensures found { let m = method_view body.now.method.now in let x = frames.old in

@@ -1,5 +1,5 @@
 //! The verdicts on the methods of a class, with the frames at the instructions at which they are refused.
-ghost use Rattle.std.specs.Prelude.{◌≡◌, ◌<◌, ◌≤◌, ℕ, List, length, IfOk, IfErr, MatchOption};
+ghost use Rattle.std.specs.Prelude.{◌≡◌, ◌<◌, ℕ, List, length, IfOk, IfErr, MatchOption};
 ghost use Rattle.classfile.specs.CodeMethods.{judged_class};
 ghost use Rattle.classfile.specs.Methods.{JudgedClass};
 ghost use Rattle.classfile.specs.Views.{class_view};
@@ -8,13 +8,13 @@ ghost use Rattle.hierarchy.specs.Class.{ClassFact};
 ghost use Rattle.hierarchy.specs.Rules.{IsHierarchy};
 ghost use Rattle.rules.specs.Reasons.{reason_number};
 ghost use Rattle.verify.specs.Listed.{IsListed};
-ghost use Rattle.verify.specs.Coming.{FramesFact, no_frames, AreFramed, AreFramesOf, IsFramedIf, frames_view};
-ghost use Rattle.verify.specs.Explaining.{AreFramedIf, IsExplained};
+ghost use Rattle.verify.specs.Coming.{FramesFact, no_frames, AreFramesOf, IsFramedIf, frames_view};
+ghost use Rattle.verify.specs.Explaining.{IsExplained};
 ghost use Rattle.verify.specs.private.pass.ClassTypes.{AreClassTypes};
 
 use crate::frames_at::{FramesAt, MOST_KEPT, Refusal, frames_of};
 use crate::pass::ClassTypes;
-use crate::report::{MethodVerdict, Report, report_listed};
+use crate::report::{Report, report_on};
 use crate::verdict::{Verdict, VerifyFault};
 use classfile::Formed;
 use hierarchy::Classes;
@@ -81,63 +81,9 @@ fn frames_at<'a, C: Classes>(
     }
 }
 
-/// The frames of each method of a class, on which these are the verdicts, as long as those in front have fewer types
-/// than [`MOST_KEPT`]. The numbers of the class's types, the frames and one table of constants serve all of them.
-fn frames_of_all<'a, C: Classes>(
-    alloc: Global,
-    formed: &Formed<'_, 'a>,
-    verdicts: &[MethodVerdict<'a>],
-    classes: &C,
-) -> Result<Vec<FramesAt<'a>>, VerifyFault>
-    requires { length verdicts.now ≤ length formed.now.class.now.methods.items }
-    ensures found { IfOk result (λ xs. AreFramed (C.content classes.now)
-        (judged_class formed.now) verdicts.now xs.items) }
-    ensures memory { IfErr result (λ e. e ≡ OutOfMemory) }
-{
-    let mut all = Vec::new(alloc);
-    let class = formed.class();
-    let mut numbers = TypeNumbers::new(alloc, classes);
-    let types = ClassTypes::new(alloc, class, &mut numbers)?;
-    let mut constants = ClassConstants::new(alloc, class, classes);
-    let mut frames = MethodFrames::new(alloc, &numbers, 0, 0, false)?;
-    let mut left = MOST_KEPT;
-    for number in 0..verdicts.len() {
-        let refusal = refusal_by(&verdicts[number].verdict, left > 0);
-        let met = frames_at(
-            alloc,
-            formed,
-            number,
-            refusal,
-            &types,
-            &mut constants,
-            &mut frames,
-        )?;
-        left = met.taken_off(left);
-        all.push(met)?;
-    }
-    Ok(all)
-}
-
-/// The frames of each method of a class, on which these are the verdicts, where they are asked for.
-fn frames_if<'a, C: Classes>(
-    alloc: Global,
-    formed: &Formed<'_, 'a>,
-    verdicts: &[MethodVerdict<'a>],
-    framed: bool,
-    classes: &C,
-) -> Result<Vec<FramesAt<'a>>, VerifyFault>
-    requires { length verdicts.now ≤ length formed.now.class.now.methods.items }
-    ensures found { IfOk result (λ xs. AreFramedIf framed (C.content classes.now)
-        (judged_class formed.now) verdicts.now xs.items) }
-    ensures memory { IfErr result (λ e. e ≡ OutOfMemory) }
-{
-    if !framed {
-        return Ok(Vec::new(alloc));
-    }
-    frames_of_all(alloc, formed, verdicts, classes)
-}
-
-/// The verdicts on the methods of a class that the hierarchy has as it is, and where they are asked for the frames.
+/// The verdicts on the methods of a class that the hierarchy has as it is, and where they are asked for, the frames of
+/// each method, as long as those in front have fewer types than [`MOST_KEPT`]. The numbers of the class's types, the
+/// frames and one table of constants serve all methods.
 pub fn explain_listed<'a, C: Classes>(
     alloc: Global,
     formed: &Formed<'_, 'a>,
@@ -149,7 +95,35 @@ pub fn explain_listed<'a, C: Classes>(
     ensures found { IfOk result (IsExplained framed (C.content classes.now) (judged_class formed.now)) }
     ensures memory { IfErr result (λ e. e ≡ OutOfMemory) }
 {
-    let report = report_listed(alloc, formed, classes)?;
-    let frames = frames_if(alloc, formed, &report.methods, framed, classes)?;
-    Ok(Explained { report, frames })
+    let mut methods = Vec::new(alloc);
+    let mut all = Vec::new(alloc);
+    let class = formed.class();
+    let mut numbers = TypeNumbers::new(alloc, classes);
+    let types = ClassTypes::new(alloc, class, &mut numbers)?;
+    let mut constants = ClassConstants::new(alloc, class, classes);
+    let mut frames = MethodFrames::new(alloc, &numbers, 0, 0, false)?;
+    let mut left = MOST_KEPT;
+    for number in 0..class.methods.len() {
+        let verdict = report_on(alloc, formed, number, &types, &mut constants, &mut frames)?;
+        if framed {
+            let refusal = refusal_by(&verdict.verdict, left > 0);
+            let met = frames_at(
+                alloc,
+                formed,
+                number,
+                refusal,
+                &types,
+                &mut constants,
+                &mut frames,
+            )?;
+            left = met.taken_off(left);
+            all.push(met)?;
+        }
+        methods.push(verdict)?;
+    }
+    let report = Report { methods };
+    Ok(Explained {
+        report,
+        frames: all,
+    })
 }

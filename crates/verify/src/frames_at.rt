@@ -1,6 +1,6 @@
 //! The frames at the instruction at which a method is refused: the one that comes to it, and the one that is declared
 //! there; and what is wrong.
-ghost use Rattle.std.specs.Prelude.{◌≡◌, ◌≢◌, ◌<◌, ◌≤◌, ◌-◌, ℕ, false, Ok, Some, List, length, map, option_map, slice_index, IfOk, IfErr};
+ghost use Rattle.std.specs.Prelude.{◌≡◌, ◌≢◌, ◌<◌, ◌≤◌, ◌-◌, ℕ, false, Ok, Some, List, length, option_map, slice_index, IfOk, IfErr};
 ghost use Rattle.std.specs.Option.{option_map_or};
 ghost use Rattle.layout.specs.declared.limits.TheConstants.{MAX_CODE_BYTES};
 ghost use Rattle.classfile.specs.CodeMethods.{class_of};
@@ -13,7 +13,6 @@ ghost use Rattle.insn.specs.Code.{SpellsCode};
 ghost use Rattle.insn.specs.Offsets.{at_offset};
 ghost use Rattle.insn.specs.Views.{act_view};
 ghost use Rattle.frames.specs.FrameFact.{frame_of};
-ghost use Rattle.frames.specs.VerificationType.{type_of};
 ghost use Rattle.type_numbers.specs.Numbers.{IsGiven};
 ghost use Rattle.type_numbers.specs.Decoding.{types_by};
 ghost use Rattle.method_frames.specs.MapFrames.{frames_by};
@@ -25,7 +24,8 @@ ghost use Rattle.rules.specs.Reasons.{reason_number};
 ghost use Rattle.rules.specs.Table.{typing_rule};
 ghost use Rattle.verify.specs.declared.verdict.VerifyFault.TheVariants.{OutOfMemory};
 ghost use Rattle.verify.specs.InitialFrames.{initial_types};
-ghost use Rattle.verify.specs.Coming.{no_frames, frames_with, before, met_before, frame_if, going, met, without_map, frames_at, frames_view, frame_size, frames_size, AreFramesOf};
+ghost use Rattle.verify.specs.Coming.{no_frames, frames_with, before, met_before, frame_if, going, met, frames_at, frames_view, frame_size, frames_size, AreFramesOf};
+ghost use Rattle.verify.specs.private.Ready.{IsReady};
 ghost use Rattle.verify.specs.private.pass.ClassTypes.{AreClassTypes};
 
 use crate::detail::{Detail, RefusedAt, detail_at};
@@ -36,14 +36,13 @@ use crate::pass::method::{declare_map, units};
 use crate::stack_maps::map_detail;
 use crate::verdict::VerifyFault;
 use classfile::CodeMethod;
-use frames::{CodeStarts, Frame, VType};
+use frames::{CodeStarts, Frame};
 use hierarchy::Classes;
 use insn::{Act, CodeFault, Instructions};
 use method_frames::MethodFrames;
 use numbered_rules::{Body, run};
 use rules::{ClassConstants, Reason, goes_on};
 use std::alloc::{AllocError, Global};
-use type_numbers::TypeNumbers;
 
 /// The frames of a method are kept where those of the methods before it have fewer types than this, so that all of them
 /// take memory that is linear in the class.
@@ -133,10 +132,7 @@ fn go_on<'a, C: Classes>(
     constants: &mut ClassConstants<'_, '_, 'a, C>,
     frames: &mut MethodFrames<'_, '_, 'a, C>,
 ) -> Result<bool, VerifyFault>
-    requires constants { constants.old.members
-        ≡ record { class = body.now.method.now.class.now; classes = frames.old.types.classes } }
-    requires locals { length frames.old.running.locals ≡ body.now.method.now.code.now.max_locals }
-    requires numbers { AreRuleNumbers frames.old.types (method_view body.now.method.now) body.now.numbers }
+    requires { IsReady body.now constants.old.members frames.old }
     ensures same { constants.new.members ≡ constants.old.members }
     ensures goes { let m = method_view body.now.method.now in
         IfOk result (λ goes. frame_if goes (held frames.new)
@@ -179,10 +175,7 @@ fn step<'a, C: Classes>(
     constants: &mut ClassConstants<'_, '_, 'a, C>,
     frames: &mut MethodFrames<'_, '_, 'a, C>,
 ) -> Result<bool, VerifyFault>
-    requires constants { constants.old.members
-        ≡ record { class = body.now.method.now.class.now; classes = frames.old.types.classes } }
-    requires locals { length frames.old.running.locals ≡ body.now.method.now.code.now.max_locals }
-    requires numbers { AreRuleNumbers frames.old.types (method_view body.now.method.now) body.now.numbers }
+    requires { IsReady body.now constants.old.members frames.old }
     ensures same { constants.new.members ≡ constants.old.members }
     ensures goes { let m = method_view body.now.method.now in let x = frames.old in
         IfOk result (λ goes. frame_if goes (held frames.new)
@@ -239,10 +232,7 @@ fn meet<'a, C: Classes>(
     constants: &mut ClassConstants<'_, '_, 'a, C>,
     frames: &mut MethodFrames<'_, '_, 'a, C>,
 ) -> Result<FramesAt<'a>, AllocError>
-    requires constants { constants.old.members
-        ≡ record { class = body.now.method.now.class.now; classes = frames.old.types.classes } }
-    requires locals { length frames.old.running.locals ≡ body.now.method.now.code.now.max_locals }
-    requires numbers { AreRuleNumbers frames.old.types (method_view body.now.method.now) body.now.numbers }
+    requires { IsReady body.now constants.old.members frames.old }
     ensures same { constants.new.members ≡ constants.old.members }
     ensures found { let m = method_view body.now.method.now in let a = act_view refused.entry.act in
         let x = frames.old in let declared = frames_by x.types x.declared in IfOk result (λ met. frames_view met
@@ -270,10 +260,7 @@ fn walk<'a, C: Classes>(
     constants: &mut ClassConstants<'_, '_, 'a, C>,
     frames: &mut MethodFrames<'_, '_, 'a, C>,
 ) -> Result<FramesAt<'a>, VerifyFault>
-    requires constants { constants.old.members
-        ≡ record { class = body.now.method.now.class.now; classes = frames.old.types.classes } }
-    requires locals { length frames.old.running.locals ≡ body.now.method.now.code.now.max_locals }
-    requires numbers { AreRuleNumbers frames.old.types (method_view body.now.method.now) body.now.numbers }
+    requires ready { IsReady body.now constants.old.members frames.old }
     requires spelled { (xs : List (ℕ × Instruction)) × SpellsCode 0 body.now.method.now.code.now.code.now xs }
     requires few { length body.now.method.now.code.now.code.now ≤ MAX_CODE_BYTES }
     ensures same { constants.new.members ≡ constants.old.members }
@@ -297,52 +284,6 @@ fn walk<'a, C: Classes>(
         comes = step(body, at, &act, comes, constants, frames)?;
     }
     Ok(FramesAt::none())
-}
-
-/// The types of these numbers.
-fn types_of<'a, C: Classes>(
-    alloc: Global,
-    numbers: &[u32],
-    types: &TypeNumbers<'_, 'a, C>,
-) -> Result<Vec<VType<'a>>, AllocError>
-    requires { (i : ℕ) → i < length numbers.now → IsGiven types.now (slice_index numbers.now i) }
-    ensures { IfOk result (λ v. map type_of v.items ≡ types_by types.now numbers.now) }
-{
-    let mut found = Vec::with_capacity(alloc, numbers.len())?;
-    for i in 0..numbers.len() {
-        found.push(types.vtype(numbers[i]))?;
-    }
-    Ok(found)
-}
-
-/// No frames where the stack map is refused: what is wrong is in the map.
-fn without_map<'a, C: Classes>(
-    alloc: Global,
-    body: &Body<'_, 'a>,
-    initial: &[u32],
-    constants: &mut ClassConstants<'_, '_, 'a, C>,
-    types: &TypeNumbers<'_, 'a, C>,
-) -> Result<FramesAt<'a>, VerifyFault>
-    requires constants { constants.old.members.class ≡ body.now.method.now.class.now }
-    requires initial { types_by types.now initial.now ≡ initial_types (method_view body.now.method.now) }
-    requires given { (i : ℕ) → i < length initial.now → IsGiven types.now (slice_index initial.now i) }
-    ensures same { constants.new.members ≡ constants.old.members }
-    ensures found { IfOk result (λ met. frames_view met ≡ without_map (method_view body.now.method.now)) }
-    ensures memory { IfErr result (λ e. e ≡ OutOfMemory) }
-{
-    let types = types_of(alloc, initial, types)?;
-    let detail = map_detail(
-        alloc,
-        body.method,
-        &types,
-        body.starts,
-        &mut constants.types,
-    )?;
-    Ok(FramesAt {
-        coming: None,
-        declared: None,
-        detail,
-    })
 }
 
 /// The frames at the offset at which a method is refused, whose receiver and parameters have types of these numbers.
@@ -375,7 +316,11 @@ fn frames_in_body<'a, C: Classes>(
     }
     match declare_map(alloc, body, initial, frames)? {
         Ok(()) => walk(alloc, body, refusal, constants, frames),
-        Err(_) => without_map(alloc, body, initial, constants, frames.types()),
+        Err(why) => Ok(FramesAt {
+            coming: None,
+            declared: None,
+            detail: map_detail(alloc, body.method, why)?,
+        }),
     }
 }
 

@@ -9,6 +9,7 @@ ghost use Rattle.verify.specs.Listed.{IsListed};
 ghost use Rattle.verify.specs.private.pass.ClassTypes.{AreClassTypes};
 ghost use Rattle.verify.specs.Reports.{IsReported, IsReport, Reports, ReportsBytes};
 
+use crate::explanation::{Explained, explain_listed};
 use crate::final_super::has_final_super;
 use crate::listing::has_summary;
 use crate::method::verify_listed;
@@ -22,7 +23,6 @@ use names::Text;
 use rules::ClassConstants;
 use std::alloc::{AllocError, Global};
 use thiserror::Error;
-use type_numbers::TypeNumbers;
 
 /// A method and the verdict on it.
 #[derive(Clone, Copy, Debug)]
@@ -73,7 +73,7 @@ impl From<AllocError> for ClassFault {
 }
 
 /// The verdict on the method of this number; the types and the constants are those of the class.
-fn report_on<'a, C: Classes>(
+pub fn report_on<'a, C: Classes>(
     alloc: Global,
     formed: &Formed<'_, 'a>,
     number: usize,
@@ -107,8 +107,7 @@ fn report_on<'a, C: Classes>(
     }
 }
 
-/// The verdicts on the methods of a class that the hierarchy has as it is. The numbers of its types, the
-/// frames and one table of constants serve all of them.
+/// The verdicts on the methods of a class that the hierarchy has as it is.
 pub fn report_listed<'a, C: Classes>(
     alloc: Global,
     formed: &Formed<'_, 'a>,
@@ -119,17 +118,10 @@ pub fn report_listed<'a, C: Classes>(
     ensures found { IfOk result (λ r. IsReport (C.content classes.now) (judged_class formed.now) r.methods.items) }
     ensures memory { IfErr result (λ e. e ≡ OutOfMemory) }
 {
-    let mut methods = Vec::new(alloc);
-    let class = formed.class();
-    let mut numbers = TypeNumbers::new(alloc, classes);
-    let types = ClassTypes::new(alloc, class, &mut numbers)?;
-    let mut constants = ClassConstants::new(alloc, class, classes);
-    let mut frames = MethodFrames::new(alloc, &numbers, 0, 0, false)?;
-    for number in 0..class.methods.len() {
-        let verdict = report_on(alloc, formed, number, &types, &mut constants, &mut frames)?;
-        methods.push(verdict)?;
+    match explain_listed(alloc, formed, false, classes) {
+        Ok(Explained { report, .. }) => Ok(report),
+        Err(fault) => Err(fault),
     }
-    Ok(Report { methods })
 }
 
 /// The verdicts on the methods of a class that is well formed, by its profile (see [`Formed::under`]), in a hierarchy

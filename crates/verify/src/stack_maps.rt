@@ -1,85 +1,65 @@
-//! The entry for which the stack map of a method is refused.
-ghost use Rattle.std.specs.Prelude.{◌≡◌, ◌≢◌, map, option_map, IfOk, IfErr};
-ghost use Rattle.layout.specs.declared.fault.ReadFault.TheVariants as reading;
-ghost use Rattle.frames.specs.VerificationType.{type_of};
-ghost use Rattle.frames.specs.RefusedEntries.{refused_of};
-ghost use Rattle.frames.specs.MarkedCode.{code_in};
+//! Why a stack map is refused, and the entry for which it is.
+ghost use Rattle.std.specs.Prelude.{◌≡◌, option_map, IfOk};
 ghost use Rattle.rules.specs.Bodies.{method_view};
-ghost use Rattle.verify.specs.declared.verdict.VerifyFault.TheVariants.{OutOfMemory};
-ghost use Rattle.verify.specs.InitialFrames.{initial_types};
-ghost use Rattle.verify.specs.Details.{refused_detail, faulty_detail, map_detail, detail_of};
+ghost use Rattle.verify.specs.Details.{faulty_detail, detail_of};
+ghost use Rattle.verify.specs.Verdict.{map_fault_number};
+ghost use Rattle.verify.specs.private.pass.Maps.{refusal_of, detail_for};
 
 use crate::detail::Detail;
 use crate::refusal::stack_map;
-use crate::verdict::VerifyFault;
 use classfile::CodeMethod;
-use frames::{CodeStarts, Limits, RefusedEntry, VType, faulty_entry, read_map, refused_entry};
+use frames::{RefusedEntry, faulty_entry};
 use layout::ReadFault;
-use pool::ConstantTypes;
-use std::alloc::Global;
+use std::alloc::{AllocError, Global};
 
-/// The entry that is refused, if one is.
-fn refused_detail<'a>(refused: Option<RefusedEntry>) -> Option<Detail<'a>>
-    ensures { option_map detail_of result ≡ option_map refused_detail (option_map refused_of refused) }
-{
-    match refused {
-        Some(refused) => Some(Detail::MapEntry {
-            place: refused.place,
-            at: Some(refused.at),
-        }),
-        None => None,
+/// Why a stack map is refused (JVMS 4.7.4).
+#[derive(Clone, Copy)]
+pub enum MapRefusal {
+    /// Its bytes are no entries.
+    Unreadable(ReadFault),
+    /// An entry declares no frame.
+    Undeclared(RefusedEntry),
+}
+
+impl MapRefusal {
+    /// The number of the fault.
+    pub fn number(&self) -> u8
+        ensures { result ≡ map_fault_number (refusal_of self.now) }
+    {
+        match self {
+            MapRefusal::Unreadable(fault) => fault.number(),
+            MapRefusal::Undeclared(entry) => entry.fault.number(),
+        }
     }
 }
 
-/// The entry that bytes with a fault do not spell, if the fault is in one; 1 where memory ran out.
-fn faulty_detail<'a>(
-    alloc: Global,
-    body: &[u8],
-    fault: ReadFault,
-) -> Result<Option<Detail<'a>>, VerifyFault>
-    ensures found { IfOk result (λ o. (fault ≢ reading.OutOfMemory)
-        × (option_map detail_of o ≡ faulty_detail body.now)) }
-    ensures memory { IfErr result (λ e. e ≡ OutOfMemory) }
+/// The first entry that bytes do not spell, if there is one.
+fn faulty_detail<'a>(alloc: Global, body: &[u8]) -> Result<Option<Detail<'a>>, AllocError>
+    ensures { IfOk result (λ o. option_map detail_of o ≡ faulty_detail body.now) }
 {
-    let place = match fault {
-        ReadFault::OutOfMemory => return Err(VerifyFault::OutOfMemory),
-        _ => faulty_entry(alloc, body)?,
-    };
-    match place {
+    match faulty_entry(alloc, body)? {
         Some(place) => Ok(Some(Detail::MapEntry { place, at: None })),
         None => Ok(None),
     }
 }
 
-/// The entry for which the stack map of a method is refused (JVMS 4.7.4): the first that declares no frame, or where
-/// bytes spell no stack map, the first that they do not spell. None where no entry is at fault.
+/// The entry for which the stack map of a method is refused: the one that declares no frame, or where its bytes are no
+/// entries, the first that they do not spell. None where no entry is at fault.
 pub fn map_detail<'a>(
     alloc: Global,
     method: &CodeMethod<'_, 'a>,
-    types: &[VType<'a>],
-    starts: &CodeStarts<'_>,
-    constants: &mut ConstantTypes<'_, 'a>,
-) -> Result<Option<Detail<'a>>, VerifyFault>
-    requires constants { constants.old ≡ method.now.class.now.constant_pool }
-    requires types { map type_of types.now ≡ initial_types (method_view method.now) }
-    requires starts { code_in starts.now ≡ method.now.code.now.code.now }
-    ensures same { constants.new ≡ constants.old }
-    ensures found { IfOk result (λ o. option_map detail_of o ≡ map_detail (method_view method.now)) }
-    ensures memory { IfErr result (λ e. e ≡ OutOfMemory) }
+    refusal: MapRefusal,
+) -> Result<Option<Detail<'a>>, AllocError>
+    ensures { IfOk result (λ o. option_map detail_of o ≡ detail_for (method_view method.now) refusal) }
 {
-    let Some(body) = stack_map(method.code) else {
-        return Ok(None);
-    };
-    let map = match read_map(alloc, body) {
-        Ok(map) => map,
-        Err(fault) => return faulty_detail(alloc, body, fault),
-    };
-    let limits = Limits {
-        pool: &method.class.constant_pool,
-        starts,
-        max_locals: method.code.max_locals,
-        max_stack: method.code.max_stack,
-    };
-    let refused = refused_entry(alloc, map.entries(), &limits, constants, types)?;
-    Ok(refused_detail(refused))
+    if let MapRefusal::Undeclared(entry) = refusal {
+        return Ok(Some(Detail::MapEntry {
+            place: entry.place,
+            at: Some(entry.at),
+        }));
+    }
+    match stack_map(method.code) {
+        Some(body) => faulty_detail(alloc, body),
+        None => Ok(None),
+    }
 }

@@ -1,5 +1,5 @@
--- What is told once more of the instruction at which a method is refused: how it comes out of its rule, and what is
--- wrong with the frame before it.
+-- The instruction at which a method is refused: how it comes out of its rule, and the detail at fault that is about the
+-- frame before it.
 use Rattle.std.specs.Prelude.{◌≡◌, ℕ, true, false, is_none, nat_eq, List, Option, None, Some, if◌then◌else◌}
 use Rattle.classfile.specs.Methods.{Method}
 use Rattle.hierarchy.specs.Class.{ClassFact}

@@ -2,12 +2,10 @@
 ghost use Rattle.std.specs.Prelude.{◌≡◌, ◌≢◌, ◌≤◌, ◌<◌, ℕ, List, length, map, slice_index, Ok, IfOk, IfErr};
 ghost use Rattle.layout.specs.declared.limits.TheConstants.{MAX_CODE_BYTES};
 ghost use Rattle.layout.specs.declared.fault.ReadFault.TheVariants as reading;
-ghost use Rattle.layout.specs.Refusals.{read_fault_number};
 ghost use Rattle.insn.specs.Instructions.{Instruction};
 ghost use Rattle.insn.specs.Code.{SpellsCode};
 ghost use Rattle.frames.specs.FrameAssignable.{width_of};
 ghost use Rattle.frames.specs.Slots.{units_of};
-ghost use Rattle.frames.specs.DeclaredFrames.{declared_frames};
 ghost use Rattle.frames.specs.MapViews.{entry_of};
 ghost use Rattle.type_numbers.specs.Numbers.{Numbering, IsGiven};
 ghost use Rattle.type_numbers.specs.Decoding.{type_by, types_by};
@@ -17,10 +15,11 @@ ghost use Rattle.numbered_rules.specs.Running.{AreRuleNumbers};
 ghost use Rattle.rules.specs.Bodies.{method_view};
 ghost use Rattle.rules.specs.Table.{typing_rule};
 ghost use Rattle.verify.specs.InitialFrames.{initial_types, initial_frame};
-ghost use Rattle.verify.specs.Verdict.{verdict, with_frames};
+ghost use Rattle.verify.specs.Verdict.{entries_read, verdict, with_frames};
 ghost use Rattle.verify.specs.private.JudgingSteps.{Gives};
+ghost use Rattle.verify.specs.declared.stack_maps.MapRefusal.TheVariants as refusals;
 ghost use Rattle.verify.specs.declared.verdict.VerifyFault.TheVariants.{OutOfMemory};
-ghost use Rattle.verify.specs.private.pass.Maps.{DeclaresEntries, DeclaresMap, IsFresh, BeginsWith};
+ghost use Rattle.verify.specs.private.pass.Maps.{DeclaresMap, IsFresh, BeginsWith};
 
 use crate::pass::exceptions::{exception_table, handlers_of};
 use crate::pass::handlers::Handlers;
@@ -28,6 +27,7 @@ use crate::pass::judging::Compared;
 use crate::pass::passing::pass;
 use crate::place_set::PlaceSet;
 use crate::refusal::{refuse, stack_map};
+use crate::stack_maps::MapRefusal;
 use crate::verdict::{Verdict, VerifyFault};
 use frames::{Limits, MapEntry, read_map};
 use hierarchy::Classes;
@@ -57,21 +57,20 @@ pub fn units(numbers: &[u32]) -> usize
 }
 
 /// Declares the frames of these entries, and makes the running frame the one with which the method begins; or tells the
-/// number of the fault of the first entry that is refused. The only other refusal is 1, where memory runs out.
+/// first entry that is refused. The only other refusal is 1, where memory runs out.
 fn declare_entries<'a, C: Classes>(
     alloc: Global,
     entries: &[MapEntry],
     body: &Body<'_, 'a>,
     initial: &[u32],
     frames: &mut MethodFrames<'_, '_, 'a, C>,
-) -> Result<Result<(), u8>, AllocError>
+) -> Result<Result<(), MapRefusal>, AllocError>
     requires numbers { AreRuleNumbers frames.old.types (method_view body.now.method.now) body.now.numbers }
     requires fresh { IsFresh frames.old (method_view body.now.method.now) }
     requires initial { BeginsWith frames.old (method_view body.now.method.now) initial.now }
     ensures rest { AreMore frames.old frames.new }
-    ensures declared { let m = method_view body.now.method.now in IfOk result (DeclaresEntries frames.new m
-        (declared_frames m.constant_pool m.code m.max_locals m.max_stack (initial_types m)
-        (map entry_of entries.now))) }
+    ensures declared { IfOk result (DeclaresMap frames.new (method_view body.now.method.now)
+        (Ok (map entry_of entries.now))) }
 {
     let code = body.method.code;
     let limits = Limits {
@@ -82,36 +81,37 @@ fn declare_entries<'a, C: Classes>(
     };
     match declare(alloc, entries, &limits, body.numbers.table, initial, frames)? {
         Ok(()) => Ok(Ok(())),
-        Err(refused) => Ok(Err(refused.fault.number())),
+        Err(entry) => Ok(Err(MapRefusal::Undeclared(entry))),
     }
 }
 
-/// The number of a fault in a stack map's bytes.
-fn fault_number(fault: ReadFault) -> Result<u8, VerifyFault>
-    ensures told { IfOk result (λ n. (fault ≢ reading.OutOfMemory) × (n ≡ read_fault_number fault)) }
+/// The refusal of a stack map for a fault of its bytes; 1 where memory ran out.
+fn unreadable(fault: ReadFault) -> Result<MapRefusal, VerifyFault>
+    ensures told { IfOk result (λ why. (fault ≢ reading.OutOfMemory) × (why ≡ refusals.Unreadable fault)) }
     ensures memory { IfErr result (λ e. e ≡ OutOfMemory) }
 {
     match fault {
         ReadFault::OutOfMemory => Err(VerifyFault::OutOfMemory),
-        _ => Ok(fault.number()),
+        _ => Ok(MapRefusal::Unreadable(fault)),
     }
 }
 
 /// Declares the frames of a method's stack map (JVMS 4.7.4), none where it has no map, and makes the running frame the
-/// one with which the method begins; or tells the number of the fault for which the map is refused. The only other
-/// refusal is 1, where memory runs out.
+/// one with which the method begins; or tells why the map is refused. The only other refusal is 1, where memory runs
+/// out.
 #[inline(never)]
 pub fn declare_map<'a, C: Classes>(
     alloc: Global,
     body: &Body<'_, 'a>,
     initial: &[u32],
     frames: &mut MethodFrames<'_, '_, 'a, C>,
-) -> Result<Result<(), u8>, VerifyFault>
+) -> Result<Result<(), MapRefusal>, VerifyFault>
     requires numbers { AreRuleNumbers frames.old.types (method_view body.now.method.now) body.now.numbers }
     requires fresh { IsFresh frames.old (method_view body.now.method.now) }
     requires initial { BeginsWith frames.old (method_view body.now.method.now) initial.now }
     ensures rest { AreMore frames.old frames.new }
-    ensures told { IfOk result (DeclaresMap frames.new (method_view body.now.method.now)) }
+    ensures told { let m = method_view body.now.method.now in
+        IfOk result (DeclaresMap frames.new m (entries_read m.stack_map)) }
     ensures memory { IfErr result (λ e. e ≡ OutOfMemory) }
 {
     let Some(bytes) = stack_map(body.method.code) else {
@@ -120,7 +120,7 @@ pub fn declare_map<'a, C: Classes>(
     };
     let map = match read_map(alloc, bytes) {
         Ok(map) => map,
-        Err(fault) => return Ok(Err(fault_number(fault)?)),
+        Err(fault) => return Ok(Err(unreadable(fault)?)),
     };
     let declared = declare_entries(alloc, map.entries(), body, initial, frames)?;
     Ok(declared)
@@ -188,6 +188,11 @@ pub fn judge_body<'a, C: Classes>(
     }
     match declare_map(alloc, body, initial, frames)? {
         Ok(()) => judge_code(alloc, body, constants, frames),
-        Err(fault) => refuse(0, Reason::BadStackMap { fault }),
+        Err(why) => refuse(
+            0,
+            Reason::BadStackMap {
+                fault: why.number(),
+            },
+        ),
     }
 }

@@ -1,4 +1,4 @@
-use Rattle.std.proofs.Common.{◌≡◌, ◌∙◌, true, false, nat_lt, length, refl, sym, ap, subst, get_or, arith}
+use Rattle.std.proofs.Common.{◌≡◌, ◌∙◌, true, false, nat_lt, length, Option, None, refl, sym, ap, subst, get_or, arith}
 use Rattle.std.specs.Prelude.{IfOk}
 use Rattle.std.proofs.lemmas.Bool.Decides.{nat_tests}
 use Rattle.frames.specs.Slots.{in_locals, units_of}
@@ -13,7 +13,9 @@ use Rattle.rules.specs.Reasons.{reason_number}
 use Rattle.rules.specs.Table.{typing_rule}
 use Rattle.verify.specs.InitialFrames.{initial_types}
 use Rattle.verify.specs.Coming.{FramesFact, no_frames, frames_view, frames_at}
-use Rattle.verify.specs.private.pass.Maps.{DeclaresMap}
+use Rattle.verify.specs.Details.{DetailFact}
+use Rattle.verify.specs.Verdict.{entries_read}
+use Rattle.verify.specs.private.pass.Maps.{DeclaresMap, refusal_of}
 use Rattle.verify.proofs.Meeting.{frames_are, map_is}
 use Rattle.verify.proofs.frames_at.frames_in_body.Goals as goal
 
@@ -36,11 +38,6 @@ declare_map-requires-clause-initial g c =
       fits = omega (arith, long, c.from.ensures, c.if-units-from.false);
     }
 
-pub without_map-requires-clause-given : goal.without_map-requires-clause-given
-without_map-requires-clause-given g c = λ i lt.
-    let same = c.types.ensures ∙ ap (λ (z : NumberedFrames). z.types) c.in_ok-declare_map.ensures.rest.others ∙ ap (λ (z : NumberedFrames). z.types) c.restart.ensures in
-    subst (λ s. IsGiven s (get_or c.args.initial.now i 0)) (sym same) (c.requires.given i lt)
-
 pub returns-in-Ok-clause-found : goal.returns-in-Ok-clause-found
 returns-in-Ok-clause-found g c =
     let x = c.args.frames.now in
@@ -51,12 +48,12 @@ returns-in-Ok-clause-found g c =
     let same : y.types ≡ x.types = ap (λ (z : NumberedFrames). z.types) c.in_ok-declare_map.ensures.rest.others ∙ ap (λ (z : NumberedFrames). z.types) c.restart.ensures in
     let long : c.units.result ≡ length (in_locals (initial_types m)) = c.units.ensures x.types ∙ ap units_of c.requires.initial ∙ units_are (initial_types m) in
     let wide : nat_lt m.max_locals (length (in_locals (initial_types m))) ≡ false = grind (arith, nat_tests, long, c.from.ensures, c.if-units-from.false) in
-    let told = subst (DeclaresMap y m) c.in-Ok.is c.in_ok-declare_map.ensures.told in
+    let told = subst (DeclaresMap y m (entries_read m.stack_map)) c.in-Ok.is c.in_ok-declare_map.ensures.told in
     let all = frames_are y.types.classes m (frames_by y.types y.declared) n at wide told.0 (held y) told.1 ∙ ap (λ (s : Numbering). frames_at typing_rule s.classes m n at) same in
     subst (λ (z : FramesFact). IfOk c.walk.result (λ k. frames_view k ≡ z)) all c.walk.ensures.found
 
-pub returns-in-Err-clause-found : goal.returns-in-Err-clause-found
-returns-in-Err-clause-found g c =
+pub returns-in_ok-map_detail-in-Err-clause-found : goal.returns-in_ok-map_detail-in-Err-clause-found
+returns-in_ok-map_detail-in-Err-clause-found g c =
     let x = c.args.frames.now in
     let y = c.declare_map.new.frames in
     let m = method_view c.args.body.now.method.now in
@@ -64,5 +61,6 @@ returns-in-Err-clause-found g c =
     let at = c.args.refusal.at in
     let long : c.units.result ≡ length (in_locals (initial_types m)) = c.units.ensures x.types ∙ ap units_of c.requires.initial ∙ units_are (initial_types m) in
     let wide : nat_lt m.max_locals (length (in_locals (initial_types m))) ≡ false = grind (arith, nat_tests, long, c.from.ensures, c.if-units-from.false) in
-    let told = subst (DeclaresMap y m) c.in-Err.is c.in_ok-declare_map.ensures.told in
-    subst (λ (z : FramesFact). IfOk c.without_map.result (λ k. frames_view k ≡ z)) (map_is x.types.classes m told.0 n at wide told.1) c.without_map.ensures.found
+    let told = subst (DeclaresMap y m (entries_read m.stack_map)) c.in-Err.is c.in_ok-declare_map.ensures.told in
+    ap (λ (o : Option DetailFact). let all : FramesFact = record { coming = None; declared = None; detail = o } in all) (c.in_ok-map_detail-in-Err.ensures ∙ sym told.1)
+    ∙ map_is x.types.classes m (refusal_of c.in-Err.why) n at wide told.0

@@ -1,34 +1,21 @@
-use Rattle.std.proofs.Common.{◌∙◌, sym, ap, subst}
+use Rattle.std.proofs.Common.{refl}
 use Rattle.std.specs.Option.{option_map}
 use Rattle.insn.specs.Offsets.{at_offset}
 use Rattle.insn.specs.Views.{act_view}
 use Rattle.frames.specs.FrameFact.{frame_of}
-use Rattle.type_numbers.specs.Numbers.{Numbering}
 use Rattle.method_frames.specs.MapFrames.{frames_by}
 use Rattle.numbered_rules.specs.Held.{held}
-use Rattle.numbered_rules.specs.Running.{AreRuleNumbers}
-use Rattle.numbered_rules.proofs.Taking.{running_then, types_stay}
+use Rattle.numbered_rules.proofs.Taking.{running_then}
 use Rattle.rules.specs.Bodies.{method_view}
-use Rattle.rules.specs.Guards.{Surroundings}
 use Rattle.rules.specs.Reasons.{reason_number}
 use Rattle.rules.specs.Table.{typing_rule}
 use Rattle.verify.specs.Coming.{frame_if}
 use Rattle.verify.specs.Details.{detail_of}
-use Rattle.verify.proofs.Meeting.{before_is, met_is}
+use Rattle.verify.proofs.Meeting.{before_is, met_is, ready_still}
 use Rattle.verify.proofs.frames_at.meet.Goals as goal
 
-pub detail_at-requires-clause-constants : goal.detail_at-requires-clause-constants
-detail_at-requires-clause-constants g c =
-    let same = types_stay c.args.frames.now c.take_declared.new.frames c.take_declared.ensures.rest in
-    c.requires.constants ∙ ap (λ (s : Numbering). let all : Surroundings = record { class = c.args.body.now.method.now.class.now; classes = s.classes } in all) (sym same)
-
-pub detail_at-requires-clause-locals : goal.detail_at-requires-clause-locals
-detail_at-requires-clause-locals g c = c.take_declared.ensures.rest.size ∙ c.requires.locals
-
-pub detail_at-requires-clause-numbers : goal.detail_at-requires-clause-numbers
-detail_at-requires-clause-numbers g c =
-    let same = types_stay c.args.frames.now c.take_declared.new.frames c.take_declared.ensures.rest in
-    subst (λ s. AreRuleNumbers s (method_view c.args.body.now.method.now) c.args.body.now.numbers) (sym same) c.requires.numbers
+pub detail_at-requires-clause-ready : goal.detail_at-requires-clause-ready
+detail_at-requires-clause-ready g c = ready_still c.args.body.now c.args.constants.now.members c.args.constants.now.members c.args.frames.now c.take_declared.new.frames refl c.take_declared.ensures.rest c.requires
 
 pub detail_at-requires-clause-before : goal.detail_at-requires-clause-before
 detail_at-requires-clause-before g c =

@@ -1,4 +1,4 @@
-use Rattle.std.proofs.Common.{◌≡◌, ℕ, ◌+◌, ◌<◌, ◌∷◌, nat_eq, true, false, Ok, Some, length, refl, sym, ◌∙◌, ap, subst, arith}
+use Rattle.std.proofs.Common.{◌≡◌, ℕ, ◌+◌, ◌<◌, ◌∷◌, nat_eq, true, false, Ok, Some, length, refl, sym, ◌∙◌, ap, arith}
 use Rattle.std.proofs.lemmas.Bool.Decides.{nat_tests}
 use Rattle.layout.specs.Place.{Place}
 use Rattle.insn.specs.declared.operation.Act as program
@@ -8,16 +8,13 @@ use Rattle.insn.specs.Readings.{or_none, instructions_in}
 use Rattle.insn.specs.Views.{act_located}
 use Rattle.insn.proofs.Readings.{reading_at, whole_reading, only_reading, has_instruction}
 use Rattle.method_frames.specs.MapFrames.{frames_by}
-use Rattle.type_numbers.specs.Numbers.{Numbering}
 use Rattle.numbered_rules.specs.Held.{held}
-use Rattle.numbered_rules.specs.Running.{AreRuleNumbers}
-use Rattle.numbered_rules.proofs.Taking.{running_same, running_then, types_stay}
+use Rattle.numbered_rules.proofs.Taking.{running_same, running_then}
 use Rattle.rules.specs.Bodies.{method_view}
-use Rattle.rules.specs.Guards.{Surroundings}
 use Rattle.rules.specs.Reasons.{reason_number}
 use Rattle.rules.specs.Table.{typing_rule}
 use Rattle.verify.specs.Coming.{frame_if, met}
-use Rattle.verify.proofs.Meeting.{met_at, goes_past, meets, going_from, met_from}
+use Rattle.verify.proofs.Meeting.{met_at, goes_past, meets, going_from, met_from, ready_still}
 use Rattle.verify.proofs.Onward.{steps, taken_at, at_end, step_within}
 use Rattle.verify.proofs.frames_at.walk.Goals as goal
 
@@ -45,33 +42,11 @@ take_act-act-requires g c =
 pub loop-code-smaller : goal.loop-code-smaller
 loop-code-smaller g c = (step_within c.loop-code.code c.take_act-act.new.self (c.at-at.result, c.take_act-act.result) (taken_at c.loop-code.code c.take_act-act.new.self c.at-at.result c.take_act-act.result c.at-at.ensures c.take_act-act.ensures)).2
 
-pub meet-requires-clause-constants : goal.meet-requires-clause-constants
-meet-requires-clause-constants g c =
-    let same = types_stay c.args.frames.now c.loop-code.frames c.loop-code.invariant.running in
-    c.loop-code.invariant.constants ∙ c.requires.constants
-    ∙ ap (λ (s : Numbering). let all : Surroundings = record { class = c.args.body.now.method.now.class.now; classes = s.classes } in all) (sym same)
+pub meet-requires : goal.meet-requires
+meet-requires g c = ready_still c.args.body.now c.args.constants.now.members c.loop-code.constants.members c.args.frames.now c.loop-code.frames c.loop-code.invariant.constants c.loop-code.invariant.running c.requires.ready
 
-pub meet-requires-clause-locals : goal.meet-requires-clause-locals
-meet-requires-clause-locals g c = c.loop-code.invariant.running.size ∙ c.requires.locals
-
-pub meet-requires-clause-numbers : goal.meet-requires-clause-numbers
-meet-requires-clause-numbers g c =
-    let same = types_stay c.args.frames.now c.loop-code.frames c.loop-code.invariant.running in
-    subst (λ s. AreRuleNumbers s (method_view c.args.body.now.method.now) c.args.body.now.numbers) (sym same) c.requires.numbers
-
-pub step-requires-clause-constants : goal.step-requires-clause-constants
-step-requires-clause-constants g c =
-    let same = types_stay c.args.frames.now c.loop-code.frames c.loop-code.invariant.running in
-    c.loop-code.invariant.constants ∙ c.requires.constants
-    ∙ ap (λ (s : Numbering). let all : Surroundings = record { class = c.args.body.now.method.now.class.now; classes = s.classes } in all) (sym same)
-
-pub step-requires-clause-locals : goal.step-requires-clause-locals
-step-requires-clause-locals g c = c.loop-code.invariant.running.size ∙ c.requires.locals
-
-pub step-requires-clause-numbers : goal.step-requires-clause-numbers
-step-requires-clause-numbers g c =
-    let same = types_stay c.args.frames.now c.loop-code.frames c.loop-code.invariant.running in
-    subst (λ s. AreRuleNumbers s (method_view c.args.body.now.method.now) c.args.body.now.numbers) (sym same) c.requires.numbers
+pub step-requires : goal.step-requires
+step-requires g c = ready_still c.args.body.now c.args.constants.now.members c.loop-code.constants.members c.args.frames.now c.loop-code.frames c.loop-code.invariant.constants c.loop-code.invariant.running c.requires.ready
 
 pub returns-then-from-refusal-clause-found : goal.returns-then-from-refusal-clause-found
 returns-then-from-refusal-clause-found g c =

@@ -10,9 +10,9 @@ use Rattle.rules.specs.Bodies.{method_view}
 use Rattle.rules.specs.ReasonNumbers.{bad_stack_map}
 use Rattle.rules.specs.Table.{typing_rule}
 use Rattle.verify.specs.InitialFrames.{initial_types}
-use Rattle.verify.specs.Verdict.{verdict, told_of}
+use Rattle.verify.specs.Verdict.{entries_read, verdict, told_of}
 use Rattle.verify.proofs.verdicts.Judged.{too_narrow, map_told}
-use Rattle.verify.specs.private.pass.Maps.{DeclaresMap}
+use Rattle.verify.specs.private.pass.Maps.{DeclaresMap, refusal_of}
 use Rattle.verify.proofs.pass.method.judge_body.Goals as goal
 
 pub returns-then-units-from-clause-judged : goal.returns-then-units-from-clause-judged
@@ -41,6 +41,6 @@ returns-in-Err-clause-judged g c =
     let m = method_view c.args.body.now.method.now in
     let long : c.units.result ≡ length (in_locals (initial_types m)) = c.units.ensures x.types ∙ ap units_of c.requires.initial ∙ units_are (initial_types m) in
     let wide : nat_lt m.max_locals (length (in_locals (initial_types m))) ≡ false = grind (arith, nat_tests, long, c.from.ensures, c.if-units-from.false) in
-    let told = subst (DeclaresMap c.declare_map.new.frames m) c.in-Err.is c.in_ok-declare_map.ensures.told in
+    let told = subst (DeclaresMap c.declare_map.new.frames m (entries_read m.stack_map)) c.in-Err.is c.in_ok-declare_map.ensures.told in
     c.refuse-in-Err.ensures (verdict typing_rule x.types.classes m)
-    (inr (map_told m x.types.classes wide told.0 told.1 ∙ ap (λ n. Some (0, with_fault bad_stack_map n)) (sym told.2)))
+    (inr (map_told m x.types.classes wide (refusal_of c.in-Err.why) told.0 ∙ ap (λ n. Some (0, with_fault bad_stack_map n)) (sym c.number.ensures)))

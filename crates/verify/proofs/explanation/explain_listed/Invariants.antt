@@ -1,10 +1,11 @@
--- Each method so far was answered.
-use Rattle.std.proofs.Common.{◌≡◌, ℕ, length, Some}
+-- Each method so far was answered, and where they are asked for, its frames were found.
+use Rattle.std.proofs.Common.{◌≡◌, ℕ, true, length, Some}
 use Rattle.std.specs.Prelude.{slice_get}
 use Rattle.classfile.specs.CodeMethods.{judged_class}
 use Rattle.verify.specs.declared.report.MethodVerdict.{MethodVerdict}
 use Rattle.verify.specs.Reports.{IsReported}
-use Rattle.verify.proofs.report.report_listed.Given as goal
+use Rattle.verify.proofs.Counted.{AreFramedSoFar}
+use Rattle.verify.proofs.explanation.explain_listed.Given as goal
 
 abbrev pub invariant-loop-number : goal.invariant-loop-number
 invariant-loop-number g l = record {
@@ -12,4 +13,5 @@ invariant-loop-number g l = record {
   types : l.frames.types ≡ l.initial.frames.types;
   count : length l.methods.items ≡ l.number;
   each : (n : ℕ) (r : MethodVerdict) → slice_get l.methods.items n ≡ Some r → IsReported (g.C.Classes.content l.classes) (judged_class l.formed) n r;
+  framed : l.framed ≡ true → AreFramedSoFar (g.C.Classes.content l.classes) (judged_class l.formed) l.methods.items l.all.items l.left;
 }
