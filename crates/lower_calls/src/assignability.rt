@@ -15,7 +15,6 @@ fn laws_are_called() {
     laws::types_mean();
     laws::frames_have_one_answer();
     laws::frames_to_themselves();
-    laws::forms_agree();
 }
 
 const I: VType<'static> = VType::Class(b"I");

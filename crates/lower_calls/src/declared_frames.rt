@@ -1,15 +1,19 @@
-ghost use Rattle.std.specs.Prelude.{◌≡◌};
+ghost use Rattle.std.specs.Prelude.{◌≡◌, [], replicate};
+ghost use Rattle.type_numbers.specs.Constants.{IsTable};
 
+use crate::making::{hasher, object};
 use classfile::{ClassFile, decode};
 use format_calls::making::K;
 use frames::{
-    CodeStarts, DeclaredFrames, Frame, FrameFault, Limits, MapEntry, RefusedEntry, StackMap,
-    TypeInfo, VType, declare, declared, laws, refused_entry,
+    CodeStarts, Frame, FrameFault, Limits, MapEntry, RefusedEntry, StackMap, TypeInfo, VType,
+    declared, laws,
 };
+use hierarchy::{Classes, Rows};
 use insn::decode_code;
-use pool::ConstantTypes;
+use method_frames::{MethodFrames, declare};
 use std::alloc::{AllocError, Global};
 use std::test::*;
+use type_numbers::{ConstantTable, TypeNumbers};
 
 /// Three instructions that do nothing, and `return`.
 pub const CODE: [u8; 4] = [0, 0, 0, 0xB1];
@@ -54,58 +58,44 @@ fn is_whole(found: &(u16, Frame<'_>), at: u16, locals: &[VType<'_>], stack: &[VT
         && found.1.stack.as_slice() == stack
 }
 
-/// Whether the frame at a place has these locals and perhaps more, and this stack, at the offset of this number.
-fn has_at(
-    alloc: Global,
-    frames: &DeclaredFrames<'_>,
-    place: u16,
-    locals: &[VType<'_>],
-    stack: &[VType<'_>],
-) -> Result<bool, AllocError> {
-    match frames.get(usize::from(place)) {
-        Some((at, declared)) => {
-            let frame = declared.to_frame(alloc)?;
-            Ok(is_whole(&(at as u16, frame), place, locals, stack))
-        }
-        None => Ok(false),
-    }
-}
-
-/// Whether the frames of the entries stand by their offsets, and no other.
-fn have_all(alloc: Global, frames: &DeclaredFrames<'_>) -> Result<bool, AllocError> {
-    let same = has_at(alloc, frames, 0, &LOCALS, &[])?;
-    let item = has_at(alloc, frames, 1, &LOCALS, &[VType::Double])?;
-    let chopped = has_at(alloc, frames, 2, &LOCALS[..3], &[])?;
-    Ok(same && item && chopped && frames.get(3).is_none())
-}
-
-/// Whether the frames of the entries are declared.
-fn are_found(alloc: Global, class: &ClassFile<'_>) -> Result<bool, AllocError> {
-    let Ok(starts) = CodeStarts::new(alloc, &CODE) else {
-        return Ok(false);
-    };
-    let map = stack_map(alloc)?;
-    let mut constants = ConstantTypes::new(alloc, &class.constant_pool);
-    let limits = limits(class, &starts, 2);
-    match declare(alloc, map.entries(), &limits, &mut constants, &[])? {
-        Ok(frames) => have_all(alloc, &frames),
-        Err(_) => Ok(false),
-    }
-}
-
 /// The first entry that is refused, where the stack has room for this many units.
 fn refused(
     alloc: Global,
     class: &ClassFile<'_>,
     max_stack: u16,
 ) -> Result<Option<RefusedEntry>, AllocError> {
+    let alone = [object(alloc)];
+    let Ok(classes) = Rows::new(alloc, &alone, hasher()) else {
+        return Err(AllocError);
+    };
+    let mut types = TypeNumbers::new(alloc, &classes);
+    let table = ConstantTable::new(alloc, &class.constant_pool, &mut types)?;
+    let mut frames = MethodFrames::new(alloc, &types, 5, max_stack, false)?;
+    refused_among(alloc, class, max_stack, &table, &mut frames)
+}
+
+/// The first entry that is refused, by the table of the class's constants.
+fn refused_among<C: Classes>(
+    alloc: Global,
+    class: &ClassFile<'_>,
+    max_stack: u16,
+    table: &ConstantTable,
+    frames: &mut MethodFrames<'_, '_, '_, C>,
+) -> Result<Option<RefusedEntry>, AllocError>
+    requires table { IsTable frames.old.types class.now.constant_pool table.now }
+    requires none { frames.old.declared ≡ [] }
+    requires top { frames.old.running.locals ≡ replicate 5 0 }
+    requires limit { frames.old.limit ≡ max_stack }
+{
     let Ok(starts) = CodeStarts::new(alloc, &CODE) else {
         return Err(AllocError);
     };
     let map = stack_map(alloc)?;
-    let mut constants = ConstantTypes::new(alloc, &class.constant_pool);
     let limits = limits(class, &starts, max_stack);
-    refused_entry(alloc, map.entries(), &limits, &mut constants, &[])
+    match declare(alloc, map.entries(), &limits, table, &[], frames)? {
+        Ok(()) => Ok(None),
+        Err(refused) => Ok(Some(refused)),
+    }
 }
 
 /// Whether these frames are told with all their locals; or the fault, where the stack has room for one unit.
@@ -128,7 +118,6 @@ fn are_whole(alloc: Global, class: &ClassFile<'_>, max_stack: u16) -> Result<boo
 #[test]
 fn of_entries(rt: HostRuntime) {
     let class = decode(rt.alloc(), &K).expect(&rt, "a class file");
-    assert!(rt; are_found(rt.alloc(), &class) == Ok(true));
     assert!(rt; are_whole(rt.alloc(), &class, 2) == Ok(true));
     assert!(rt; are_whole(rt.alloc(), &class, 1) == Ok(true));
 }
