@@ -38,22 +38,14 @@ const CLONE: Act<'static> = Act::InvokeVirtual { index: 11 };
 const CONSTRUCT: Act<'static> = Act::InvokeSpecial { index: 9 };
 
 /// Whether the constant of the constructor is no field of the class itself, and asks for no bootstrap method.
-fn names_method<'a, C: Classes>(
-    alloc: Global,
-    method: &CodeMethod<'_, 'a>,
-    classes: &C,
-) -> Judged {
+fn names_method<'a, C: Classes>(alloc: Global, method: &CodeMethod<'_, 'a>, classes: &C) -> Judged {
     let mut constants = ClassConstants::new(alloc, method.class, classes);
     let own = constants.sets_own(method, 9)?;
     Ok(!own && constants.members.is_bootstrapped(method, 9)?)
 }
 
 /// Whether `invokespecial` of the constructor of Object calls a constructor.
-fn constructs<'a, C: Classes>(
-    alloc: Global,
-    method: &CodeMethod<'_, 'a>,
-    classes: &C,
-) -> Judged {
+fn constructs<'a, C: Classes>(alloc: Global, method: &CodeMethod<'_, 'a>, classes: &C) -> Judged {
     let mut constants = ClassConstants::new(alloc, method.class, classes);
     let named = constants.named(method, &CONSTRUCT)?;
     match named.method() {
@@ -63,11 +55,7 @@ fn constructs<'a, C: Classes>(
 }
 
 /// Whether a call of `clone` uses it on the object on top of the stack.
-fn uses<'a, C: Classes>(
-    alloc: Global,
-    method: &CodeMethod<'_, 'a>,
-    classes: &C,
-) -> Judged {
+fn uses<'a, C: Classes>(alloc: Global, method: &CodeMethod<'_, 'a>, classes: &C) -> Judged {
     let mut constants = ClassConstants::new(alloc, method.class, classes);
     let named = constants.named(method, &CLONE)?;
     match used_by(method, &CLONE, &named) {
@@ -233,7 +221,12 @@ fn lesser_reasons(rt: HostRuntime) {
     assert!(rt; together(Ok(()), Ok(())).is_ok());
     assert!(rt; check_object(Answer::Yes).is_ok());
     assert!(rt; matches!(check_object(Answer::No), Err(Reason::ProtectedMember)));
-    assert!(rt; matches!(check_object(Answer::Missing(b"B")), Err(Reason::ClassMissing(_))));
+    assert!(rt;
+        matches!(
+            check_object(Answer::Missing(b"B")),
+            Err(Reason::ClassMissing(_))
+        )
+    );
 }
 
 /// Where memory runs out the reason is 1.
