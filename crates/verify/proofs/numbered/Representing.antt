@@ -10,7 +10,7 @@ use Rattle.type_numbers.specs.Decoding.{type_by}
 use Rattle.method_frames.specs.NumberedFrames.{NumberedFrame, NumberedFrames}
 use Rattle.verify.specs.declared.pass.representatives.Representative.{Representative}
 use Rattle.verify.specs.declared.pass.representatives.Representatives.{Representatives}
-use Rattle.verify.specs.private.pass.Representatives.{SharesBelow, IsLead, TakesLocal, AllTake, TakesChanges, IsChain, IsCommon, IsNamed, IsWithin, AreRepresentatives, IsPut}
+use Rattle.verify.specs.private.pass.Representatives.{SharesBelow, TakesLocal, AllTake, TakesChanges, IsChain, IsCommon, IsNamed, IsWithin, AreRepresentatives, IsPut}
 
 -- ---- places of a list
 
