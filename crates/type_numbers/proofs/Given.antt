@@ -19,6 +19,10 @@ use Rattle.frames.proofs.SlotTypes.{array_counted as slots_counted}
 use Rattle.type_numbers.specs.Numbers.{Numbering, IsNoted, IsBaseNoted, IsNumber, absent_number, number_by, numbered, class_number}
 use Rattle.type_numbers.proofs.NumberParts.{array_counted, base_noted}
 
+-- a class of the hierarchy
+pub present_given : (classes : List ClassFact) (ns : List (List ℕ)) (name : List ℕ) (dims place n : ℕ) → place_in classes name ≡ Some place → numbered 7 dims place ≡ Some n → class_number classes ns dims name ≡ Some n
+present_given classes ns name dims place n there is = ap (λ o. number_by dims o (position (bytes_eq name) ns)) there ∙ is
+
 -- an absent class
 pub absent_given : (classes : List ClassFact) (ns : List (List ℕ)) (name : List ℕ) (dims place : ℕ) (r : Result ℕ AllocError) → place_in classes name ≡ None → position (bytes_eq name) ns ≡ Some place → result_ok r ≡ absent_number dims place → IfOk r (λ n. class_number classes ns dims name ≡ Some n)
 absent_given classes ns name dims place (Ok n) there at is = ap₂ (number_by dims) there at ∙ sym is

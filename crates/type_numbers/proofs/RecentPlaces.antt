@@ -4,11 +4,11 @@ use Rattle.std.specs.Borrow.{Bor}
 use Rattle.std.specs.List.{All}
 use Rattle.std.proofs.lemmas.List.Elements.{All-head, All-tail}
 use Rattle.hierarchy.specs.Class.{ClassFact}
-use Rattle.type_numbers.specs.private.RecentPlaces.{IsPlace}
+use Rattle.type_numbers.specs.private.RecentPlaces.{IsSlot, KeptNames}
 
 -- what is kept at one place of a row, if anything
-pub place_at : (classes : List ClassFact) (slots : List (Option (Bor (List ℕ) × ℕ))) (k : ℕ) → All (IsPlace classes) slots → IsPlace classes (get_or slots k None)
-place_at classes [] zero are = tt
-place_at classes [] (suc k) are = tt
-place_at classes (x ∷ xs) zero are = All-head (IsPlace classes) x xs are
-place_at classes (x ∷ xs) (suc k) are = place_at classes xs k (All-tail (IsPlace classes) x xs are)
+pub place_at : (classes : List ClassFact) (kept : KeptNames) (slots : List (Option (Bor (List ℕ) × ℕ))) (k : ℕ) → All (IsSlot classes kept) slots → IsSlot classes kept (get_or slots k None)
+place_at classes kept [] zero are = tt
+place_at classes kept [] (suc k) are = tt
+place_at classes kept (x ∷ xs) zero are = All-head (IsSlot classes kept) x xs are
+place_at classes kept (x ∷ xs) (suc k) are = place_at classes kept xs k (All-tail (IsSlot classes kept) x xs are)

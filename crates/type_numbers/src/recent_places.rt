@@ -1,10 +1,7 @@
 //! The places of classes whose names were asked for a short while ago.
-ghost use Rattle.std.specs.Prelude.{◌≡◌, ◌<◌, List, Some, IfSome};
+ghost use Rattle.std.specs.Prelude.{◌<◌, List, IfSome};
 ghost use Rattle.hierarchy.specs.Class.{ClassFact};
-ghost use Rattle.hierarchy.specs.Places.{place_in};
-ghost use Rattle.type_numbers.specs.private.RecentPlaces.{ArePlaces};
-
-use hierarchy::Classes;
+ghost use Rattle.type_numbers.specs.private.RecentPlaces.{ArePlaces, IsPlace, KeptNames};
 
 /// How many names are kept at most.
 const COUNT: usize = 64;
@@ -38,7 +35,7 @@ fn slot_of(name: &[u8]) -> usize
 impl<'n> RecentPlaces<'n> {
     /// No name is kept.
     pub fn new() -> RecentPlaces<'n>
-        ensures { (classes : List ClassFact) → ArePlaces classes result }
+        ensures { (classes : List ClassFact) (kept : KeptNames) → ArePlaces classes kept result }
     {
         RecentPlaces {
             slots: [None; COUNT],
@@ -46,33 +43,19 @@ impl<'n> RecentPlaces<'n> {
     }
 
     /// The place of a name, if it is kept.
-    fn find(&self, name: &[u8]) -> Option<u16>
-        ensures { (classes : List ClassFact) → ArePlaces classes self.now
-            → IfSome result (λ place. place_in classes name.now ≡ Some place) }
+    pub fn find(&self, name: &[u8]) -> Option<u16>
+        ensures { (classes : List ClassFact) (kept : KeptNames) → ArePlaces classes kept self.now
+            → IfSome result (IsPlace classes kept name.now) }
     {
         let (kept, place) = self.slots[slot_of(name)]?;
         if kept == name { Some(place) } else { None }
     }
 
     /// Keeps the place of a name, and forgets the name that had its slot.
-    fn keep(&mut self, name: &'n [u8], place: u16)
-        ensures { (classes : List ClassFact) → place_in classes name.entry.now ≡ Some place
-            → ArePlaces classes self.old → ArePlaces classes self.new }
+    pub fn keep(&mut self, name: &'n [u8], place: u16)
+        ensures { (classes : List ClassFact) (kept : KeptNames) → IsPlace classes kept name.entry.now place
+            → ArePlaces classes kept self.old → ArePlaces classes kept self.new }
     {
         self.slots[slot_of(name)] = Some((name, place));
-    }
-
-    /// The place of the class of this name. The classes are asked only where the name is not kept.
-    pub fn place<C: Classes>(&mut self, classes: &C, name: &'n [u8]) -> Option<u16>
-        requires { ArePlaces (C.content classes.now) self.old }
-        ensures place { result ≡ place_in (C.content classes.now) name.entry.now }
-        ensures kept { ArePlaces (C.content classes.now) self.new }
-    {
-        if let Some(place) = self.find(name) {
-            return Some(place);
-        }
-        let place = classes.place(name)?;
-        self.keep(name, place);
-        Some(place)
     }
 }

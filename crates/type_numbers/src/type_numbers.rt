@@ -25,7 +25,7 @@ pub struct TypeNumbers<'c, 'n, C: Classes> {
     absent: AbsentNames<'n>,
     /// The names in the hierarchy that have numbers, by their places.
     present: BTreeMap<u16, &'n [u8]>,
-    /// The places of the names that were asked for last.
+    /// The names in the hierarchy that were asked for last, which have numbers, and their places.
     recent: RecentPlaces<'n>,
 }
 
@@ -101,15 +101,20 @@ impl<'c, 'n, C: Classes> TypeNumbers<'c, 'n, C> {
         }
     }
 
-    /// The number of a class, or of an array of so many dimensions of one.
+    /// The number of a class, or of an array of so many dimensions of one. A name that was asked for a short while ago
+    /// takes one comparison: neither the hierarchy nor the names that have numbers are asked again.
     fn class_number(&mut self, dims: u8, name: &'n [u8]) -> Result<u32, AllocError>
         ensures number { IfOk result (λ n. class_number self.new.classes self.new.absent dims name.entry.now ≡ Some n) }
         ensures noted { IfOk result (λ _. IsNoted self.new name.entry.now) }
         ensures kept { Extends self.old self.new }
     {
-        match self.recent.place(self.classes, name) {
+        if let Some(place) = self.recent.find(name) {
+            return Ok(present_number(dims, place));
+        }
+        match self.classes.place(name) {
             Some(place) => {
                 self.present.insert(place, name)?;
+                self.recent.keep(name, place);
                 Ok(present_number(dims, place))
             }
             None => {
