@@ -6,9 +6,7 @@ use names::{Base, OBJECT, Primitive};
 use pool::Pool;
 use std::alloc::{AllocError, Global};
 use std::test::*;
-use type_numbers::{
-    ConstantTable, DescriptorNumbers, MethodNumbers, NamedConstant, TypeNumbers, laws,
-};
+use type_numbers::{ConstantTable, MethodNumbers, NamedConstant, TypeNumbers, laws};
 
 const D: VType<'static> = VType::Class(b"D");
 
@@ -213,15 +211,14 @@ fn is_method<'n, C: Classes>(
     pool: &Pool<'n>,
     numbers: &mut TypeNumbers<'_, 'n, C>,
 ) -> Result<bool, AllocError> {
-    let mut descriptors = DescriptorNumbers::new(alloc, pool)?;
-    let first = descriptors.types(pool, 7, numbers)?;
-    let again = descriptors.types(pool, 7, numbers)?;
+    let mut table = ConstantTable::new(alloc, pool, numbers)?;
+    let first = table.method_types(pool, 7, numbers)?;
+    let again = table.method_types(pool, 7, numbers)?;
     let Some(types) = again else {
         return Ok(false);
     };
-    let fits = descriptors.arguments(types) == ARGUMENTS.as_slice();
-    let fine = types.result.is_none() && first == again;
-    Ok(fits && fine && descriptors.into_row().len() == usize::from(types.count))
+    let fits = table.arguments(types) == ARGUMENTS.as_slice();
+    Ok(fits && types.result.is_none() && first == again)
 }
 
 /// Whether the text at 4 of that pool is not a descriptor of a method, and no text is at 5.
@@ -230,9 +227,9 @@ fn are_no_methods<'n, C: Classes>(
     pool: &Pool<'n>,
     numbers: &mut TypeNumbers<'_, 'n, C>,
 ) -> Result<bool, AllocError> {
-    let mut descriptors = DescriptorNumbers::new(alloc, pool)?;
-    let text = descriptors.types(pool, 4, numbers)?;
-    let constant = descriptors.types(pool, 5, numbers)?;
+    let mut table = ConstantTable::new(alloc, pool, numbers)?;
+    let text = table.method_types(pool, 4, numbers)?;
+    let constant = table.method_types(pool, 5, numbers)?;
     Ok(text.is_none() && constant.is_none())
 }
 

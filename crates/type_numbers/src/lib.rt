@@ -30,7 +30,7 @@ mod texts;
 mod type_numbers;
 
 pub use constant_table::ConstantTable;
-pub use method_numbers::{DescriptorNumbers, MethodNumbers};
+pub use method_numbers::MethodNumbers;
 pub use named_constant::NamedConstant;
 pub use parts::{Parts, element_at, uninit_number};
 pub use type_numbers::TypeNumbers;

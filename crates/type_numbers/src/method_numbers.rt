@@ -185,11 +185,4 @@ impl DescriptorNumbers {
     {
         &self.arguments[types.start..types.start + usize::from(types.count)]
     }
-
-    /// The row of the types of all parameters.
-    pub fn into_row(self) -> Vec<u32>
-        ensures { result.items ≡ row_of self }
-    {
-        self.arguments
-    }
 }
