@@ -5,7 +5,7 @@ ghost use Rattle.pool.specs.ConstantMeanings.{constant_at, dynamic_type_at};
 ghost use Rattle.frames.specs.Slots.{descriptor_type};
 ghost use Rattle.type_numbers.specs.Numbers.{IsNumberOf};
 ghost use Rattle.type_numbers.specs.Constants.{IsTable};
-ghost use Rattle.rules.specs.Constants.{is_bootstrapped, load_constant, load_dynamic, load_wide_constant};
+ghost use Rattle.rules.specs.Constants.{is_bootstrapped, load_dynamic};
 ghost use Rattle.numbered_rules.specs.private.Loading.{load_by, load_computed, units_by};
 ghost use Rattle.rules.specs.After.{after};
 ghost use Rattle.rules.specs.Rules.{conditions};
@@ -87,8 +87,9 @@ fn loads_computed<'n, C: Classes>(
     }
 }
 
-/// Loads a constant, which takes two units where `wide` says so.
-fn loads_constant<'n, C: Classes>(
+/// `ldc`, `ldc_w` and `ldc2_w`: loads a constant, which takes two units where `wide` says so. Its refusals are 60, 66 and
+/// 90, and those of [`gives`].
+pub fn loads_constant<'n, C: Classes>(
     method: &CodeMethod<'_, '_>,
     wide: bool,
     index: u16,
@@ -111,42 +112,4 @@ fn loads_constant<'n, C: Classes>(
         return Err(Reason::WrongConstant);
     }
     gives(method, number, frames)
-}
-
-/// `ldc` and `ldc_w`. Its refusals are 60, 66 and 90, and those of [`gives`].
-pub fn load_constant<'n, C: Classes>(
-    method: &CodeMethod<'_, '_>,
-    index: u16,
-    bootstrapped: bool,
-    table: &ConstantTable,
-    frames: &mut MethodFrames<'_, '_, 'n, C>,
-) -> Result<(), Reason<'n>>
-    requires table { IsTable frames.old.types (method_view method.now).constant_pool table.now }
-    requires bootstrapped { let m = method_view method.now in
-        bootstrapped ≡ is_bootstrapped m (constant_at m.constant_pool index) }
-    ensures done { (at : ℕ) → let m = method_view method.now in let f = held frames.old in
-        let p = load_constant m (dynamic_type_at m.constant_pool index) (constant_at m.constant_pool index) in
-        Done (conditions frames.old.types.classes m at p f) (after m at p f) (held frames.new) result }
-    ensures rest { IsRunning frames.old frames.new }
-{
-    loads_constant(method, false, index, bootstrapped, table, frames)
-}
-
-/// `ldc2_w`. Its refusals are those of [`load_constant`].
-pub fn load_wide_constant<'n, C: Classes>(
-    method: &CodeMethod<'_, '_>,
-    index: u16,
-    bootstrapped: bool,
-    table: &ConstantTable,
-    frames: &mut MethodFrames<'_, '_, 'n, C>,
-) -> Result<(), Reason<'n>>
-    requires table { IsTable frames.old.types (method_view method.now).constant_pool table.now }
-    requires bootstrapped { let m = method_view method.now in
-        bootstrapped ≡ is_bootstrapped m (constant_at m.constant_pool index) }
-    ensures done { (at : ℕ) → let m = method_view method.now in let f = held frames.old in
-        let p = load_wide_constant m (dynamic_type_at m.constant_pool index) (constant_at m.constant_pool index) in
-        Done (conditions frames.old.types.classes m at p f) (after m at p f) (held frames.new) result }
-    ensures rest { IsRunning frames.old frames.new }
-{
-    loads_constant(method, true, index, bootstrapped, table, frames)
 }

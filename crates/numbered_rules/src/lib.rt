@@ -63,7 +63,7 @@ pub use computing::{
     stores_reference, takes_int, takes_ints, takes_nothing, takes_reference, takes_references,
     throws,
 };
-pub use constants::{load_constant, load_wide_constant};
+pub use constants::loads_constant;
 pub use expected::{Asked, Expected};
 pub use families::{counts, give, gives, judge_left, loads, pops, settle};
 pub use fields::{get_field, get_static, put_field, put_static};

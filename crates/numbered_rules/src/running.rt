@@ -22,7 +22,7 @@ use crate::computing::{
     stores_reference, takes_int, takes_ints, takes_nothing, takes_reference, takes_references,
     throws,
 };
-use crate::constants::{load_constant, load_wide_constant};
+use crate::constants::loads_constant;
 use crate::families::counts;
 use crate::fields::{get_field, get_static, put_field, put_static};
 use crate::making::new_object;
@@ -85,10 +85,10 @@ pub fn run<'n, C: Classes>(
             invoke_dynamic(method, index, facts.bootstrapped, table, frames)
         }
         Act::LoadConstant { index } => {
-            load_constant(method, index, facts.bootstrapped, table, frames)
+            loads_constant(method, false, index, facts.bootstrapped, table, frames)
         }
         Act::LoadWideConstant { index } => {
-            load_wide_constant(method, index, facts.bootstrapped, table, frames)
+            loads_constant(method, true, index, facts.bootstrapped, table, frames)
         }
         Act::NewReferenceArray { index } => new_reference_array(method, index, table, frames),
         Act::NewMultiArray { index, dimensions } => {
