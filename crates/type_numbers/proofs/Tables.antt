@@ -1,5 +1,6 @@
 -- Tables that have what each constant of a pool is, at its index.
-use Rattle.std.proofs.Common.{◌≡◌, ◌∙◌, ◌⊎◌, inl, inr, ℕ, zero, suc, ◌+◌, ◌-◌, ◌<◌, ◌≤◌, false, cond, nat_eq, List, [], ◌∷◌, ◌++◌, length, Option, Some, None, Err, option_map, slice_get, get_or, refl, sym, ap, subst, arith, length-append}
+use Rattle.std.proofs.Common.{◌≡◌, ◌∙◌, ◌⊎◌, inl, inr, ℕ, zero, suc, ◌+◌, ◌-◌, ◌<◌, ◌≤◌, false, cond, nat_eq, List, [], ◌∷◌, ◌++◌, length, Option, Some, None, Result, Ok, Err, OnOk, option_map, slice_get, get_or, refl, sym, ap, subst, arith, length-append}
+use Rattle.std.specs.declared.alloc.AllocError.{AllocError}
 use Rattle.std.specs.Option.{option_and_then}
 use Rattle.std.proofs.lemmas.Bool.{cases_lt}
 use Rattle.std.proofs.lemmas.Bool.Decides.{nat_tests}
@@ -17,11 +18,13 @@ use Rattle.pool.specs.ConstantMeanings.{found, field_constant, method_constant, 
 use Rattle.frames.specs.Slots.{to_reference, descriptor_type}
 use Rattle.hierarchy.proofs.Names.{slice_none, some_same}
 use Rattle.type_numbers.specs.declared.constant_table.ConstantTable.{ConstantTable}
+use Rattle.type_numbers.specs.declared.method_numbers.DescriptorNumbers.{DescriptorNumbers}
+use Rattle.type_numbers.specs.declared.method_numbers.MethodNumbers.{MethodNumbers}
 use Rattle.type_numbers.specs.declared.named_constant.NamedConstant.{NamedConstant}
 use Rattle.type_numbers.specs.declared.named_constant.NamedConstant.TheVariants.{Other}
 use Rattle.type_numbers.specs.Numbers.{Numbering, Extends}
 use Rattle.type_numbers.specs.Constants.{Meaning, IsDescribed, IsTable, meaning_at, class_number_of, field_class_of, field_held_of, method_class_of, method_types_of, field_class, field_held, method_class, method_type, loaded_of, loaded_type, computed_of, site_types_of, site_type, arguments_of, constant_in, constants_of}
-use Rattle.type_numbers.specs.MethodNumbers.{GoesOn}
+use Rattle.type_numbers.specs.MethodNumbers.{GoesOn, row_of}
 use Rattle.type_numbers.specs.private.Entries.{IsEntryDescribed, class_by, field_by, method_by, computed_by, site_by, meaning_by}
 use Rattle.type_numbers.proofs.FieldEntries.{number_of_stays}
 use Rattle.type_numbers.proofs.MethodEntries.{nothing_described}
@@ -176,6 +179,16 @@ entry_here cs pool i c e is h =
 
 pub whole_pool : (cs : List Constant) (pool : List Entry) (i : ℕ) → views cs ≡ pool → i ≡ length cs → i ≡ length pool
 whole_pool cs pool i e is = is ∙ sym (length-map cs view) ∙ ap length e
+
+table_goes_on : (old new : Numbering) (pool : List Entry) (t : ConstantTable) (d : DescriptorNumbers) → Extends old new → GoesOn (arguments_of t) (row_of d) → IsTable old pool t → IsTable new pool (record { constants = t.constants; descriptors = d })
+table_goes_on old new pool t d more on h index =
+    described_stays old new more (arguments_of t) (row_of d) on (meaning_at pool index) (constant_in (constants_of t) index) (h index)
+
+-- a table stands when one more descriptor was asked for
+pub table_read : (old new : Numbering) (pool : List Entry) (t : ConstantTable) (d : DescriptorNumbers) → Extends old new → IsTable old pool t → (r : Result (Option MethodNumbers) AllocError) → OnOk r (GoesOn (arguments_of t) (row_of d))
+    → OnOk r (IsTable new pool (record { constants = t.constants; descriptors = d }))
+table_read old new pool t d more h (Ok x) on = table_goes_on old new pool t d more on h
+table_read old new pool t d more h (Err e) on = tt
 
 pub table_stays : (old new : Numbering) (pool : List Entry) (t : ConstantTable) → Extends old new → IsTable old pool t → IsTable new pool t
 table_stays old new pool t more h index =

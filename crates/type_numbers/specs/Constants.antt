@@ -12,11 +12,12 @@ use Rattle.classfile.specs.Naming.{begins_with}
 use Rattle.frames.specs.VerificationType.{VerificationType, int, float, long, double, class}
 use Rattle.frames.specs.Slots.{to_reference, descriptor_type}
 use Rattle.type_numbers.specs.declared.constant_table.ConstantTable.{ConstantTable}
+use Rattle.type_numbers.specs.declared.method_numbers.DescriptorNumbers.{DescriptorNumbers}
 use Rattle.type_numbers.specs.declared.method_numbers.MethodNumbers.{MethodNumbers}
 use Rattle.type_numbers.specs.declared.named_constant.NamedConstant.{NamedConstant}
 use Rattle.type_numbers.specs.declared.named_constant.NamedConstant.TheVariants.{Other, Class, Field, Method, Loaded, Dynamic, Site}
 use Rattle.type_numbers.specs.Numbers.{Numbering, IsNumberOf, Extends}
-use Rattle.type_numbers.specs.MethodNumbers.{AreTypesOf}
+use Rattle.type_numbers.specs.MethodNumbers.{AreTypesOf, row_of}
 
 -- ---- the parts of what a constant is
 
@@ -159,12 +160,16 @@ pub record IsDescribed (s : Numbering) (row : List ℕ) (m : Meaning) (c : Named
 abbrev pub constant_in : List NamedConstant → ℕ → NamedConstant
 constant_in constants index = slice_index_or constants index Other
 
--- the constants that a table has, by their indices, and the row that their descriptors share
+-- the constants that a table has, by their indices
 abbrev pub constants_of : ConstantTable → List NamedConstant
 constants_of t = t.constants.items
 
+-- the descriptors of methods that were read for it, and the row that they share
+abbrev pub descriptors_of : ConstantTable → DescriptorNumbers
+descriptors_of t = t.descriptors
+
 abbrev pub arguments_of : ConstantTable → List ℕ
-arguments_of t = t.arguments.items
+arguments_of t = row_of (descriptors_of t)
 
 -- the table says of each index what the constant there is
 abbrev pub IsTable : Numbering → List Entry → ConstantTable → Type 0

@@ -1,10 +1,10 @@
 //! The constants of a class as its instructions name them.
-ghost use Rattle.std.specs.Prelude.{◌≡◌, ◌+◌, ◌≤◌, length, IfOk};
-ghost use Rattle.type_numbers.specs.Constants.{IsTable, arguments_of, constant_in, constants_of};
-ghost use Rattle.type_numbers.specs.MethodNumbers.{arguments_in};
+ghost use Rattle.std.specs.Prelude.{◌≡◌, ◌+◌, ◌≤◌, length, IfOk, OnOk};
+ghost use Rattle.type_numbers.specs.Constants.{IsTable, arguments_of, constant_in, constants_of, descriptors_of};
+ghost use Rattle.type_numbers.specs.MethodNumbers.{AreDescriptors, AreTypesOf, GoesOn, arguments_in, method_in};
 ghost use Rattle.type_numbers.specs.Numbers.{Extends};
 
-use crate::method_numbers::MethodNumbers;
+use crate::method_numbers::{DescriptorNumbers, MethodNumbers};
 use crate::named_constant::NamedConstant;
 use crate::texts::Texts;
 use crate::type_numbers::TypeNumbers;
@@ -17,8 +17,8 @@ use std::alloc::{AllocError, Global};
 pub struct ConstantTable {
     /// By the indices of the constants; at 0, which no constant has, stands [`NamedConstant::Other`].
     constants: Vec<NamedConstant>,
-    /// The types of the parameters of all methods.
-    arguments: Vec<u32>,
+    /// The descriptors of methods that were read, with the types of their parameters.
+    descriptors: DescriptorNumbers,
 }
 
 impl ConstantTable {
@@ -31,6 +31,7 @@ impl ConstantTable {
     ) -> Result<ConstantTable, AllocError>
         ensures kept { Extends numbers.old numbers.new }
         ensures described { IfOk result (IsTable numbers.new pool.now) }
+        ensures descriptors { IfOk result (λ t. AreDescriptors numbers.new pool.now (descriptors_of t)) }
     {
         let mut texts = Texts::new(alloc, pool, numbers)?;
         let entries = pool.constants();
@@ -42,8 +43,28 @@ impl ConstantTable {
         }
         Ok(ConstantTable {
             constants,
-            arguments: texts.into_row(),
+            descriptors: texts.into_descriptors(),
         })
+    }
+
+    /// The numbers of the types that the text at an index of the table's pool names as the descriptor of a method; none
+    /// where no text is there, or it is no such descriptor. A text to which a constant leads is not read again. The only
+    /// refusal is 1, where memory runs out.
+    pub fn method_types<'a, C: Classes>(
+        &mut self,
+        pool: &Pool<'a>,
+        index: u16,
+        numbers: &mut TypeNumbers<'_, 'a, C>,
+    ) -> Result<Option<MethodNumbers>, AllocError>
+        requires described { IsTable numbers.old pool.now self.old }
+        requires descriptors { AreDescriptors numbers.old pool.now (descriptors_of self.old) }
+        ensures kept { Extends numbers.old numbers.new }
+        ensures described { OnOk result (IsTable numbers.new pool.now self.new) }
+        ensures descriptors { OnOk result (AreDescriptors numbers.new pool.now (descriptors_of self.new)) }
+        ensures grown { OnOk result (GoesOn (arguments_of self.old) (arguments_of self.new)) }
+        ensures types { IfOk result (λ x. AreTypesOf numbers.new (arguments_of self.new) x (method_in pool.now index)) }
+    {
+        self.descriptors.types(pool, index, numbers)
     }
 
     /// The constant at an index as instructions name it.
@@ -63,6 +84,6 @@ impl ConstantTable {
         requires { types.start + types.count ≤ length (arguments_of self.now) }
         ensures { result.now ≡ arguments_in (arguments_of self.now) types }
     {
-        &self.arguments[types.start..types.start + usize::from(types.count)]
+        self.descriptors.arguments(types)
     }
 }

@@ -375,10 +375,10 @@ impl Texts {
         }
     }
 
-    /// The row of the types of all methods' parameters.
-    pub fn into_row(self) -> Vec<u32>
-        ensures { result.items ≡ shared_row self }
+    /// The texts as the descriptors of methods.
+    pub fn into_descriptors(self) -> DescriptorNumbers
+        ensures { result ≡ self.methods }
     {
-        self.methods.into_row()
+        self.methods
     }
 }

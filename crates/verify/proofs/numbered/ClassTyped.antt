@@ -20,8 +20,9 @@ use Rattle.insn.specs.Meanings.{Act}
 use Rattle.frames.specs.VerificationType.{VerificationType, class as class_type}
 use Rattle.frames.specs.Slots.{descriptor_type}
 use Rattle.type_numbers.specs.Numbers.{Numbering, Extends, IsNumberOf, IsGiven}
+use Rattle.type_numbers.specs.Constants.{arguments_of}
 use Rattle.type_numbers.specs.Decoding.{types_by}
-use Rattle.type_numbers.specs.MethodNumbers.{AreNumbers, AreTypes, AreTypesOf, GoesOn, method_in, row_of}
+use Rattle.type_numbers.specs.MethodNumbers.{AreNumbers, AreTypes, AreTypesOf, GoesOn, method_in}
 use Rattle.type_numbers.specs.declared.method_numbers.MethodNumbers.{MethodNumbers}
 use Rattle.type_numbers.proofs.Decoded.{number_read}
 use Rattle.type_numbers.proofs.FieldEntries.{number_of_stays}
@@ -73,8 +74,8 @@ module _ (m : CodeMethod) where
       ap (λ r. option_and_then (λ text. found (method_answer false text)) (found r)) from.text_is
       ∙ ap found (without_receiver _ from.text (types_of m) from.read)
 
-  pub own_types : (s : Numbering) (x : ClassTypes) → AreClassTypes s (class_view m.class.now) x → AreTypesOf s (row_of x.descriptors) (slice_index_or x.methods.items m.number None) (Some (types_of m))
-  own_types s x k = subst (AreTypesOf s (row_of x.descriptors) (slice_index_or x.methods.items m.number None)) own_type (k.methods m.number own_member own_is_there)
+  pub own_types : (s : Numbering) (x : ClassTypes) → AreClassTypes s (class_view m.class.now) x → AreTypesOf s (arguments_of x.table) (slice_index_or x.methods.items m.number None) (Some (types_of m))
+  own_types s x k = subst (AreTypesOf s (arguments_of x.table) (slice_index_or x.methods.items m.number None)) own_type (k.methods m.number own_member own_is_there)
 
 -- ---- types one after the other
 

@@ -6,8 +6,9 @@ ghost use Rattle.classfile.specs.Methods.{receiver_of};
 ghost use Rattle.classfile.specs.Views.{class_view};
 ghost use Rattle.frames.specs.Slots.{descriptor_type};
 ghost use Rattle.rules.specs.Bodies.{method_view};
+ghost use Rattle.type_numbers.specs.Constants.{IsTable, arguments_of, descriptors_of};
 ghost use Rattle.type_numbers.specs.Numbers.{Numbering, Extends, IsNumberOf};
-ghost use Rattle.type_numbers.specs.MethodNumbers.{AreDescriptors, AreNumbers, row_of};
+ghost use Rattle.type_numbers.specs.MethodNumbers.{AreDescriptors, AreNumbers};
 ghost use Rattle.numbered_rules.specs.Running.{AreRuleNumbers};
 ghost use Rattle.verify.specs.InitialFrames.{initial_types};
 ghost use Rattle.verify.specs.private.pass.ClassTypes.{AreClassTypes, AreMethodTypes, receiver_type};
@@ -20,7 +21,7 @@ use method_frames::OWN_OBJECT;
 use numbered_rules::RuleNumbers;
 use rules::{class_name, superclass_name};
 use std::alloc::{AllocError, Global};
-use type_numbers::{ConstantTable, DescriptorNumbers, MethodNumbers, TypeNumbers};
+use type_numbers::{ConstantTable, MethodNumbers, TypeNumbers};
 
 /// The numbers of the types of a class: of its constants, of the descriptors of its methods, and of all that the rules
 /// of their instructions ask for. Each text is read once, however many constants and methods lead to it.
@@ -28,7 +29,6 @@ use type_numbers::{ConstantTable, DescriptorNumbers, MethodNumbers, TypeNumbers}
 pub struct ClassTypes {
     numbers: ClassNumbers,
     table: ConstantTable,
-    descriptors: DescriptorNumbers,
     /// By the numbers of the methods; none where a descriptor is none.
     methods: Vec<Option<MethodNumbers>>,
 }
@@ -37,17 +37,19 @@ pub struct ClassTypes {
 fn method_types<'a, C: Classes>(
     alloc: Global,
     class: &ClassFile<'a>,
-    descriptors: &mut DescriptorNumbers,
+    table: &mut ConstantTable,
     types: &mut TypeNumbers<'_, 'a, C>,
 ) -> Result<Vec<Option<MethodNumbers>>, AllocError>
-    requires { AreDescriptors types.old class.now.constant_pool descriptors.old }
+    requires described { IsTable types.old class.now.constant_pool table.old }
+    requires descriptors { AreDescriptors types.old class.now.constant_pool (descriptors_of table.old) }
     ensures kept { Extends types.old types.new }
-    ensures given { IfOk result (λ v. AreMethodTypes types.new (row_of descriptors.new) (class_view class.now)
+    ensures described { OnOk result (IsTable types.new class.now.constant_pool table.new) }
+    ensures given { IfOk result (λ v. AreMethodTypes types.new (arguments_of table.new) (class_view class.now)
         v.items) }
 {
     let mut methods = Vec::with_capacity(alloc, class.methods.len())?;
     for member in &class.methods {
-        let named = descriptors.types(&class.constant_pool, member.descriptor, types)?;
+        let named = table.method_types(&class.constant_pool, member.descriptor, types)?;
         methods.push(named)?;
     }
     Ok(methods)
@@ -76,13 +78,11 @@ impl ClassTypes {
         ensures given { IfOk result (AreClassTypes types.new (class_view class.now)) }
     {
         let numbers = ClassNumbers::new(class_name(class), superclass_name(class), types)?;
-        let table = ConstantTable::new(alloc, &class.constant_pool, types)?;
-        let mut descriptors = DescriptorNumbers::new(alloc, &class.constant_pool)?;
-        let methods = method_types(alloc, class, &mut descriptors, types)?;
+        let mut table = ConstantTable::new(alloc, &class.constant_pool, types)?;
+        let methods = method_types(alloc, class, &mut table, types)?;
         Ok(ClassTypes {
             numbers,
             table,
-            descriptors,
             methods,
         })
     }
@@ -130,7 +130,7 @@ impl ClassTypes {
             → AreNumbers s result.now (map descriptor_type (types_of method.now).params) }
     {
         match self.named(method.number) {
-            Some(named) => self.descriptors.arguments(named),
+            Some(named) => self.table.arguments(named),
             None => &[],
         }
     }

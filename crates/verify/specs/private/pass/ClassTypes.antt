@@ -8,8 +8,8 @@ use Rattle.classfile.specs.MethodParts.{or_empty}
 use Rattle.insn.specs.Meanings.{Act}
 use Rattle.frames.specs.VerificationType.{VerificationType, class as class_of, uninit_this}
 use Rattle.type_numbers.specs.Numbers.{Numbering, IsNumber, IsNumberOf}
-use Rattle.type_numbers.specs.Constants.{IsTable}
-use Rattle.type_numbers.specs.MethodNumbers.{AreTypesOf, method_in, row_of}
+use Rattle.type_numbers.specs.Constants.{IsTable, arguments_of}
+use Rattle.type_numbers.specs.MethodNumbers.{AreTypesOf, method_in}
 use Rattle.type_numbers.specs.declared.method_numbers.MethodNumbers.{MethodNumbers}
 use Rattle.numbered_rules.specs.Expected.{objects as array_of_objects}
 use Rattle.verify.specs.declared.pass.class_numbers.ClassNumbers.{ClassNumbers}
@@ -33,7 +33,7 @@ pub record AreClassTypes (s : Numbering) (c : Class) (x : ClassTypes) : Type 0 w
   pub numbers : AreClassNumbers s (or_empty (class_named (class_at c.constant_pool c.this_class)))
       (superclass_of c.constant_pool c.super_class) x.numbers
   pub table : IsTable s c.constant_pool x.table
-  pub methods : AreMethodTypes s (row_of x.descriptors) c x.methods.items
+  pub methods : AreMethodTypes s (arguments_of x.table) c x.methods.items
 
 -- the type of a receiver
 abbrev pub receiver_type : Method Act → Receiver → Option VerificationType

@@ -1,6 +1,7 @@
 use Rattle.std.proofs.Common.{◌≡◌, sym, subst, arith, length}
 use Rattle.std.proofs.lemmas.Grind.{common_steps}
 use Rattle.pool.specs.Views.{view}
+use Rattle.type_numbers.specs.MethodNumbers.{AreDescriptors, row_of}
 use Rattle.type_numbers.specs.private.Readings.{shared_row}
 use Rattle.type_numbers.proofs.LawsOfNumbers.{extends_on}
 use Rattle.type_numbers.proofs.Tables.{AreFilled, entry_here, fill_one, filled_none, filled_table, whole_pool}
@@ -38,6 +39,9 @@ returns-clause-described g c =
     let end : c.loop-constant.constant-index ≡ length c.constants-entries.result.now = omega (arith, c.loop-constant.auto.constant-index-end, c.loop-constant-test.false) in
     let all = whole_pool c.constants-entries.result.now pool c.loop-constant.constant-index c.constants-entries.ensures end in
     let items = c.loop-constant.constants.items in
-    filled_table c.loop-constant.numbers pool (record { constants = c.loop-constant.constants; arguments = c.into_row.result })
-    (subst (λ row. AreFilled c.loop-constant.numbers row pool items (length pool)) (sym c.into_row.ensures)
+    filled_table c.loop-constant.numbers pool (record { constants = c.loop-constant.constants; descriptors = c.into_descriptors.result })
+    (subst (λ d. AreFilled c.loop-constant.numbers (row_of d) pool items (length pool)) (sym c.into_descriptors.ensures)
     (subst (AreFilled c.loop-constant.numbers (shared_row c.loop-constant.texts) pool items) all c.loop-constant.invariant.filled))
+
+pub returns-clause-descriptors : goal.returns-clause-descriptors
+returns-clause-descriptors g c = subst (AreDescriptors c.loop-constant.numbers c.args.pool.now) (sym c.into_descriptors.ensures) c.loop-constant.invariant.texts.methods

@@ -1,4 +1,4 @@
-use Rattle.std.proofs.Common.{rules, ◌≡◌, ◌∙◌, ◌+◌, ℕ, length, sym, ap, subst}
+use Rattle.std.proofs.Common.{rules, ◌∙◌, ◌+◌, length, sym, ap, subst}
 use Rattle.std.proofs.lemmas.List.{length-map}
 use Rattle.pool.specs.Views.{view}
 use Rattle.type_numbers.specs.declared.text_numbers.Reading.TheVariants.{Unread}

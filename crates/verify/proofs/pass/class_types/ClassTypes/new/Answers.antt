@@ -1,7 +1,6 @@
 use Rattle.std.proofs.Common.{subst}
 use Rattle.classfile.specs.Methods.{superclass_of}
 use Rattle.type_numbers.proofs.LawsOfNumbers.{extends_on}
-use Rattle.type_numbers.proofs.Tables.{table_stays}
 use Rattle.verify.specs.private.pass.ClassTypes.{AreClassNumbers}
 use Rattle.verify.proofs.numbered.ClassTyped.{class_numbers_stay}
 use Rattle.verify.proofs.pass.class_types.ClassTypes.new.Goals as goal
@@ -18,15 +17,12 @@ returns-clause-given g c =
     record {
       numbers = class_numbers_stay s1 s3 later _ above x (subst (λ own. AreClassNumbers s1 own above x) c.class_name.ensures
           (subst (λ o. AreClassNumbers s1 c.class_name.result.now o x) c.superclass_name.ensures c.in_ok-numbers.ensures.given));
-      table = table_stays s2 s3 class.constant_pool c.in_ok-table.table c.method_types.ensures.kept c.in_ok-table.ensures.described;
+      table = c.in_ok-methods.ensures.described;
       methods = c.in_ok-methods.ensures.given;
     }
 
 pub returns-in_err-table-clause-kept : goal.returns-in_err-table-clause-kept
 returns-in_err-table-clause-kept g c = extends_on c.args.types.now c.new.new.types c.new-2.new.numbers c.new.ensures.kept c.new-2.ensures.kept
-
-pub returns-in_err-descriptors-clause-kept : goal.returns-in_err-descriptors-clause-kept
-returns-in_err-descriptors-clause-kept g c = extends_on c.args.types.now c.new.new.types c.new-2.new.numbers c.new.ensures.kept c.new-2.ensures.kept
 
 pub returns-in_err-methods-clause-kept : goal.returns-in_err-methods-clause-kept
 returns-in_err-methods-clause-kept g c =

@@ -1,7 +1,7 @@
 use Rattle.std.proofs.Common.{None}
 use Rattle.std.specs.Prelude.{slice_index_or}
 use Rattle.classfile.specs.CodeMethods.{types_of}
-use Rattle.type_numbers.specs.MethodNumbers.{row_of}
+use Rattle.type_numbers.specs.Constants.{arguments_of}
 use Rattle.verify.proofs.numbered.ClassTyped.{own_types, result_named}
 use Rattle.verify.proofs.pass.class_types.ClassTypes.rule_numbers.Goals as goal
 
@@ -16,5 +16,5 @@ returns c = λ s k.
       throwable = k.numbers.throwable;
       class = k.numbers.class;
       superclass = k.numbers.superclass;
-      returned = result_named s (row_of x.descriptors) (slice_index_or x.methods.items m.number None) (types_of m) c.returned.result c.returned.ensures (own_types m s x k);
+      returned = result_named s (arguments_of x.table) (slice_index_or x.methods.items m.number None) (types_of m) c.returned.result c.returned.ensures (own_types m s x k);
     }
