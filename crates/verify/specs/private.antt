@@ -3,6 +3,7 @@ pub mod AmongSteps
 pub mod Catching
 pub mod EachSteps
 pub mod FileSteps
+pub mod InTurn
 pub mod Judged
 pub mod JudgingSteps
 pub mod MetNames
