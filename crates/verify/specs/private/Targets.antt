@@ -1,12 +1,14 @@
 -- The frames at the targets of an instruction, by their places.
-use Rattle.std.specs.Prelude.{ℕ, ℤ, Bool, List, [], ◌∷◌, Result}
+use Rattle.std.specs.Prelude.{ℕ, ℤ, Bool, List, [], ◌∷◌, Option, Some, Result, MatchOption, ◌≡◌}
+use Rattle.std.specs.Global.{Vec}
 use Rattle.std.specs.List.{list_any}
-use Rattle.frames.specs.Conditions.{Conditions, is_no}
+use Rattle.frames.specs.Conditions.{Conditions, is_no, least, reason}
 use Rattle.frames.specs.FrameAssignable.{frame_answer}
 use Rattle.method_frames.specs.NumberedFrames.{NumberedFrames, frame_by, declared_frame}
 use Rattle.method_frames.specs.MapFrames.{frames_by}
 use Rattle.numbered_rules.specs.Held.{held}
 use Rattle.rules.specs.declared.reason.Reason.{Reason as RuleReason}
+use Rattle.rules.specs.ReasonNumbers.{no_frame_at_target}
 use Rattle.verify.specs.Verdict.{declared_at, one_target, target_conditions}
 use Rattle.verify.specs.private.InTurn.{IsJudgedInTurn}
 use Rattle.verify.specs.private.pass.Finding.{IsFound}
@@ -34,3 +36,9 @@ abbrev pub AreFound : NumberedFrames → List ℤ → List ℕ → Type 0
 AreFound x [] [] = Unit {0}
 AreFound x (target ∷ others) (frame ∷ frames) = IsFound x.types x.declared target frame × AreFound x others frames
 AreFound x _ _ = ⊥
+
+-- those, or there is a target at which none is declared
+abbrev pub FindsAll : NumberedFrames → List ℤ → Option (Vec ℕ) → Type 0
+FindsAll x targets o =
+    MatchOption o (least (all_targets x targets) ≡ Some (reason no_frame_at_target))
+    (λ found. AreFound x targets found.items)

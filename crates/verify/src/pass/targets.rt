@@ -1,11 +1,9 @@
 //! Where an instruction branches to.
-ghost use Rattle.std.specs.Prelude.{◌≡◌, ◌<◌, None, Some, All, length, IfOk, MatchOption};
+ghost use Rattle.std.specs.Prelude.{◌≡◌, ◌<◌, All, length, IfOk};
 ghost use Rattle.insn.specs.Branching.{branches_view, targets_of};
 ghost use Rattle.insn.specs.Offsets.{led_to};
-ghost use Rattle.frames.specs.Conditions.{least, reason};
 ghost use Rattle.rules.specs.Outcomes.{Judges};
-ghost use Rattle.rules.specs.ReasonNumbers.{no_frame_at_target};
-ghost use Rattle.verify.specs.private.Targets.{AreJudgedInTurn, AreFound, all_targets, any_refuses, refuses, target_at};
+ghost use Rattle.verify.specs.private.Targets.{AreJudgedInTurn, FindsAll, all_targets, any_refuses, target_at};
 
 use crate::flow::check_answer;
 use crate::pass::declared::declared_at;
@@ -51,8 +49,7 @@ fn frames_at<C: Classes>(
     targets: BranchTargets<'_>,
     frames: &MethodFrames<'_, '_, '_, C>,
 ) -> Result<Option<Vec<usize>>, AllocError>
-    ensures { let x = frames.now in let all = targets_of targets.entry in IfOk result (λ o.
-        MatchOption o (least (all_targets x all) ≡ Some (reason no_frame_at_target)) (λ found. AreFound x all found.items)) }
+    ensures { IfOk result (FindsAll frames.now (targets_of targets.entry)) }
 {
     let mut found = Vec::new(alloc);
     for target in targets {

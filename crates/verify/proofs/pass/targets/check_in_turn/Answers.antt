@@ -41,4 +41,4 @@ returns-in_err-check_target-clause-judged g c =
 pub returns-clause-judged : goal.returns-clause-judged
 returns-clause-judged g c =
     let x = c.args.frames.now in
-    c.loop-target.invariant.left (Ok tt) (subst (λ ts. AreJudgedInTurn x ts (Ok tt)) (sym c.in-None.ensures) (ends (target_at x) (all_targets x) refl (λ y ys. refl) tt))
+    c.loop-target.invariant.left (Ok tt) (subst (λ ts. AreJudgedInTurn x ts (Ok tt)) (sym c.in-None.ensures.steps.0) (ends (target_at x) (all_targets x) refl (λ y ys. refl) tt))
