@@ -16,7 +16,7 @@ pub mod InTurn
 pub mod Going
 pub mod Ends
 pub mod Plain
-pub mod Unlike
+pub mod Ways
 pub mod EntriesAtFault
 pub mod Detailed
 pub mod Onward

@@ -7,12 +7,10 @@ pub mod InTurn
 pub mod Judged
 pub mod JudgingSteps
 pub mod MetNames
-pub mod PlaceSets
 pub mod PlaySteps
 pub mod Ran
 pub mod SameSummaries
 pub mod Targets
 pub mod TogetherSteps
-pub mod Turns
-pub mod Unlike
+pub mod Ways
 pub mod pass
