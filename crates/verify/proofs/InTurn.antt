@@ -1,8 +1,8 @@
 -- The least reason against an instruction, of conditions that come in turn.
-use Rattle.std.proofs.Common.{◌≡◌, ◌⊎◌, ℕ, suc, ◌+◌, ◌≤◌, Bool, true, false, nat_lt, List, [], ◌∷◌, ◌++◌, slice_get, Option, Some, None, Result, Ok, Err, refl, sym, ◌∙◌, ap, subst, arith, inl, inr, if◌then◌else◌}
+use Rattle.std.proofs.Common.{◌≡◌, ℕ, suc, ◌+◌, ◌≤◌, Bool, true, false, nat_lt, List, [], ◌∷◌, ◌++◌, slice_get, Option, Some, None, Result, Ok, Err, refl, sym, ◌∙◌, ap, subst, arith, inl, inr, if◌then◌else◌}
 use Rattle.std.proofs.lemmas.Bool.Decides.{nat_tests}
 use Rattle.hierarchy.specs.Answer.{Outcome, yes, no, missing}
-use Rattle.frames.specs.Conditions.{Conditions, Reason, reason, class_missing, number_of, lesser, least}
+use Rattle.frames.specs.Conditions.{Conditions, Reason, reason, class_missing, number_of, least}
 use Rattle.rules.specs.declared.reason.Reason.{Reason as RuleReason}
 use Rattle.rules.specs.Outcomes.{Judges}
 use Rattle.rules.specs.Reasons.{reason_view}
@@ -19,12 +19,6 @@ first_lack name o (inr e) = ap (merge (Some (class_missing name))) e.1
 merge_lack : (a b : Option Reason) → IsLack a → IsLack b → IsLack (merge a b)
 merge_lack a b (inl e) q = subst (λ z. IsLack (merge z b)) (sym e) q
 merge_lack a b (inr e) q = inr (e.0, ap (λ z. merge z b) e.1 ∙ first_lack e.0 b q)
-
--- an answer that is not no
-pub answer_lacks : (n : ℕ) (a : Outcome) → (a ≡ no → ⊥) → IsLack (least (answer_conditions n a))
-answer_lacks n yes f = inl refl
-answer_lacks n no f = absurd (f refl)
-answer_lacks n (missing name) f = inr (name, refl)
 
 -- ---- a refusal
 
@@ -113,10 +107,12 @@ module _ {A : Type 0} (one : A → Conditions) (all : List A → Conditions) (no
   -- one passes
   pub goes_on : (x : A) (xs : List A) → least (one x) ≡ None → (r : Result Unit RuleReason) → InTurn xs r → InTurn (x ∷ xs) r
   goes_on x xs e (Ok u) so = passed x xs e ∙ so
-  goes_on x xs e (Err why) so = λ lacks. record { outcome = elim (so lacks.1).outcome [
-    | inl memory ↦ inl memory
-    | inr is ↦ inr (passed x xs e ∙ is)
-  ] }
+  goes_on x xs e (Err why) so = λ lacks. record {
+    outcome = elim (so lacks.1).outcome [
+      | inl memory ↦ inl memory
+      | inr is ↦ inr (passed x xs e ∙ is)
+    ];
+  }
 
   all_lack : (xs : List A) → AreLacks one xs → IsLack (least (all xs))
   all_lack [] l = inl (ap least none)
@@ -124,10 +120,12 @@ module _ {A : Type 0} (one : A → Conditions) (all : List A → Conditions) (no
 
   -- one does not
   pub stops : (x : A) (xs : List A) (why : RuleReason) → Judges (one x) (Err why) → InTurn (x ∷ xs) (Err why)
-  stops x xs why j = λ lacks. record { outcome = elim j.outcome [
-    | inl memory ↦ inl memory
-    | inr is ↦ inr (opened x xs ∙ ap (λ z. merge z (least (all xs))) is ∙ behind (reason_view why) (subst IsLack is lacks.0) lacks.1)
-  ] }
+  stops x xs why j = λ lacks. record {
+    outcome = elim j.outcome [
+      | inl memory ↦ inl memory
+      | inr is ↦ inr (opened x xs ∙ ap (λ z. merge z (least (all xs))) is ∙ behind (reason_view why) (subst IsLack is lacks.0) lacks.1)
+    ];
+  }
     where
       behind : (r : Reason) → IsLack (Some r) → AreLacks one xs → merge (Some r) (least (all xs)) ≡ Some r
       behind r (inl e) l = absurd (cc)

@@ -1,15 +1,13 @@
 -- The first difference on a list of ways to declared frames.
-use Rattle.std.proofs.Common.{◌≡◌, ◌∙◌, ℕ, zero, suc, ◌+◌, ◌≤◌, ◌<◌, ℤ, pos, negsuc, Bool, true, false, true≢false, ◌&&◌, nat_le, nat_lt, if◌then◌else◌, is_some, List, [], ◌∷◌, length, Option, Some, None, option_map, refl, sym, ap, subst, arith}
+use Rattle.std.proofs.Common.{◌≡◌, ◌∙◌, ℕ, zero, suc, ◌+◌, ◌≤◌, ◌<◌, ℤ, pos, true, false, true≢false, is_some, List, [], ◌∷◌, length, Option, Some, None, option_map, refl, sym, ap, arith}
 use Rattle.std.specs.Prelude.{◌≢◌, All, Contains}
-use Rattle.std.specs.Int.RustNames.{unsigned_abs}
 use Rattle.std.specs.Option.{option_or}
 use Rattle.std.specs.List.Sorted.{IsPermutation}
-use Rattle.std.proofs.lemmas.Bool.Decides.{nat_tests}
 use Rattle.std.proofs.lemmas.List.{length-map}
 use Rattle.std.proofs.lemmas.List.Elements.{All-nil, All-cons, All-head, All-tail, All-contains, All-weaker}
 use Rattle.std.proofs.lemmas.List.Sorted.{All-permutation, Contains-permutation, IsPermutation-sym}
 use Rattle.hierarchy.specs.Class.{ClassFact}
-use Rattle.classfile.specs.Methods.{ExceptionEntry, covers}
+use Rattle.classfile.specs.Methods.{ExceptionEntry}
 use Rattle.insn.specs.Offsets.{at_offset}
 use Rattle.frames.specs.FrameFact.{FrameFact}
 use Rattle.frames.specs.FrameAssignable.{frame_answer}
@@ -26,7 +24,6 @@ use Rattle.method_frames.specs.MapFrames.{frames_by}
 use Rattle.numbered_rules.specs.Held.{held}
 use Rattle.rules.specs.After.{with_stack}
 use Rattle.verify.specs.TypeSafety.{caught_frame}
-use Rattle.verify.specs.Verdict.{declared_at}
 use Rattle.verify.specs.DifferencesAt.{DifferenceAtFact, sought_difference, placed, from_declared, at_target, at_targets, at_handler, at_handlers}
 use Rattle.verify.specs.declared.difference_at.Way.{Way}
 use Rattle.verify.specs.declared.pass.exceptions.Entry.{Entry}

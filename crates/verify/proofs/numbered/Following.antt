@@ -1,9 +1,9 @@
 -- The entries of an exception table while a pass goes over the code.
-use Rattle.std.proofs.Common.{◌≡◌, ◌≢◌, ◌∙◌, ℕ, zero, suc, ◌+◌, ◌≤◌, ◌<◌, Bool, true, false, ◌||◌, nat_lt, nat_le, ◌&&◌, List, [], ◌∷◌, length, get_or, slice_get, drop, Option, Some, None, Result, Ok, if◌then◌else◌, refl, sym, ap, subst, arith}
+use Rattle.std.proofs.Common.{◌≡◌, ◌∙◌, ℕ, zero, suc, ◌+◌, ◌≤◌, ◌<◌, Bool, true, false, ◌||◌, nat_lt, nat_le, ◌&&◌, List, [], ◌∷◌, length, get_or, slice_get, drop, Option, Some, None, Result, if◌then◌else◌, refl, sym, ap, subst, arith}
 use Rattle.std.proofs.lemmas.Bool.Decides.{nat_tests}
 use Rattle.classfile.specs.Methods.{ExceptionEntry, covers}
 use Rattle.hierarchy.specs.Class.{ClassFact}
-use Rattle.hierarchy.specs.Answer.{Outcome, yes, no, missing, outcome_of}
+use Rattle.hierarchy.specs.Answer.{yes, outcome_of}
 use Rattle.hierarchy.specs.declared.answer.Answer.{Answer}
 use Rattle.hierarchy.specs.declared.answer.Answer.TheVariants.{Yes, No, Missing}
 use Rattle.insn.specs.Offsets.{at_offset}
@@ -20,7 +20,7 @@ use Rattle.rules.specs.declared.reason.Reason.{Reason}
 use Rattle.numbered_rules.specs.Held.{held}
 use Rattle.rules.specs.After.{with_stack}
 use Rattle.rules.specs.Outcomes.{Judges}
-use Rattle.verify.specs.TypeSafety.{Frames, caught_frame}
+use Rattle.verify.specs.TypeSafety.{caught_frame}
 use Rattle.verify.specs.Verdict.{answer_conditions, one_handler, is_covered}
 use Rattle.verify.specs.private.Catching.{answer_at, caught_answer}
 use Rattle.verify.specs.declared.pass.handlers.Handler.{Handler}

@@ -1,7 +1,7 @@
 -- Entries that refuse an instruction, and those for which a class is missing.
-use Rattle.std.proofs.Common.{◌≡◌, ◌∙◌, ℕ, ◌+◌, ◌<◌, Bool, true, false, ◌&&◌, ◌||◌, List, [], ◌∷◌, length, drop, Option, Some, None, Result, Ok, Err, if◌then◌else◌, refl, sym, ap, inl, inr, arith}
+use Rattle.std.proofs.Common.{◌≡◌, ◌∙◌, ℕ, Bool, true, false, ◌&&◌, ◌||◌, List, [], ◌∷◌, Option, Some, None, Result, if◌then◌else◌, refl, ap, inl, inr, arith}
 use Rattle.std.specs.List.{list_any}
-use Rattle.std.specs.Prelude.{nat_le, nat_lt, All}
+use Rattle.std.specs.Prelude.{All}
 use Rattle.std.proofs.lemmas.List.Elements.{All-nil, All-cons}
 use Rattle.classfile.specs.Methods.{ExceptionEntry, covers}
 use Rattle.hierarchy.specs.Answer.{Outcome, yes, no, missing}
@@ -19,7 +19,7 @@ use Rattle.verify.specs.private.InTurn.{IsLack, AreLacks, IsJudgedInTurn}
 use Rattle.verify.specs.declared.pass.handlers.Handler.{Handler}
 use Rattle.verify.specs.private.pass.Following.{IsHandler, AreHandlers, IsOfEntry, one_handler_at, is_covering, handler_answer, refuses}
 use Rattle.verify.proofs.InTurn as turn
-use Rattle.verify.proofs.InTurn.{IsBehind, none_behind, same_behind, answer_behind, answer_lacks}
+use Rattle.verify.proofs.InTurn.{IsBehind, none_behind, same_behind, answer_behind}
 use Rattle.verify.proofs.numbered.Following.{entry_conditions}
 
 module _ (x : NumberedFrames) (at : ℕ) where

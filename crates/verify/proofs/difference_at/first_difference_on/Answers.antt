@@ -1,8 +1,7 @@
-use Rattle.std.proofs.Common.{◌≡◌, ◌∙◌, ℕ, Option, Some, option_map, ap, sym, subst}
+use Rattle.std.proofs.Common.{◌∙◌, ℕ, option_map, ap, sym, subst}
 use Rattle.std.proofs.lemmas.List.Elements.{All-contains}
 use Rattle.method_frames.specs.NumberedFrames.{NumberedFrames}
-use Rattle.verify.specs.DifferencesAt.{DifferenceAtFact, difference_at_of}
-use Rattle.verify.specs.declared.difference_at.DifferenceAt.{DifferenceAt}
+use Rattle.verify.specs.DifferencesAt.{DifferenceAtFact}
 use Rattle.verify.specs.declared.difference_at.Way.{Way}
 use Rattle.verify.specs.private.Ways.{IsFirstUnlike, IsWay, way_difference, with_places}
 use Rattle.verify.proofs.Ways.{each_way, first_is_none, first_is_some}

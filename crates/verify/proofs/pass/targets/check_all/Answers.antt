@@ -1,11 +1,11 @@
-use Rattle.std.proofs.Common.{◌≡◌, ◌∙◌, ◌<◌, ℕ, Err, length, refl, sym, subst, inr}
+use Rattle.std.proofs.Common.{◌∙◌, ◌<◌, ℕ, Err, length, refl, sym, subst, inr}
 use Rattle.std.specs.List.Sorted.{IsPermutation}
 use Rattle.std.proofs.lemmas.List.Sorted.{All-permutation, list_any-IsPermutation}
 use Rattle.insn.specs.Branching.{targets_of}
 use Rattle.method_frames.specs.NumberedFrames.{NumberedFrames}
 use Rattle.rules.specs.Outcomes.{Judges}
 use Rattle.rules.specs.declared.reason.Reason.TheVariants.{NotAssignableAtTarget}
-use Rattle.verify.specs.private.Targets.{AreFound, AreJudgedInTurn, FindsAll, all_targets, any_refuses, refuses, target_at}
+use Rattle.verify.specs.private.Targets.{AreFound, AreJudgedInTurn, FindsAll, all_targets, refuses, target_at}
 use Rattle.verify.proofs.InTurn.{judged_free}
 use Rattle.verify.proofs.numbered.Targets.{refused, free, each_within}
 use Rattle.verify.proofs.pass.targets.check_all.Goals as goal

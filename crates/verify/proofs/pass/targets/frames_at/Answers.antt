@@ -1,8 +1,8 @@
-use Rattle.std.proofs.Common.{rules, ◌≡◌, ◌∙◌, ◌++◌, ◌∷◌, [], SFits, w64, to_z, of_z, ℕ, ℤ, List, Some, None, refl, subst, sym, ap}
+use Rattle.std.proofs.Common.{rules, ◌≡◌, ◌∙◌, ◌++◌, ◌∷◌, [], SFits, w64, ℕ, ℤ, List, None, subst, sym, ap}
 use Rattle.std.proofs.lemmas.Int.{to_z-of_z}
 use Rattle.std.proofs.lemmas.List.{append-nil, append_assoc}
 use Rattle.insn.specs.Branching.{targets_of}
-use Rattle.frames.specs.Conditions.{least, reason}
+use Rattle.frames.specs.Conditions.{least}
 use Rattle.method_frames.specs.MapFrames.{frames_by}
 use Rattle.verify.specs.Verdict.{declared_at}
 use Rattle.verify.specs.private.Targets.{AreFound, all_targets}
