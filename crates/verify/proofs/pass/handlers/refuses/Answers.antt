@@ -1,4 +1,4 @@
-use Rattle.std.proofs.Common.{◌∙◌, ◌&&◌, false, true, sym, ap}
+use Rattle.std.proofs.Common.{◌∙◌, ◌&&◌, sym, ap}
 use Rattle.hierarchy.specs.Answer.{Outcome, outcome_of}
 use Rattle.frames.specs.Conditions.{is_no}
 use Rattle.frames.specs.Slots.{to_reference}

@@ -6,7 +6,7 @@ use Rattle.numbered_rules.specs.Held.{held}
 use Rattle.verify.proofs.numbered.Running.{on_ok}
 use Rattle.verify.proofs.numbered.Alone.{aside_none}
 use Rattle.verify.proofs.Plain.{plain_done}
-use Rattle.verify.proofs.numbered.Running.{onward_running, follows_on}
+use Rattle.verify.proofs.numbered.Running.{follows_on}
 use Rattle.verify.proofs.pass.judging.judge.Goals as goal
 
 pub judge_wholly-requires-clause-ahead : goal.judge_wholly-requires-clause-ahead
