@@ -12,12 +12,11 @@ pub mod ToldDetails
 pub mod ToldEntries
 pub mod MapReading
 pub mod Decoded
-pub mod Caught
+pub mod InTurn
 pub mod Going
 pub mod Ends
 pub mod Plain
-pub mod Repeated
-pub mod Unlike
+pub mod Ways
 pub mod EntriesAtFault
 pub mod Detailed
 pub mod Onward

@@ -9,6 +9,7 @@ pub mod Representing
 pub mod Dropping
 pub mod Starting
 pub mod Refusing
+pub mod Targets
 pub mod Settling
 pub mod Maps
 pub mod TableEntries

@@ -1,30 +1,33 @@
 //! The first difference of a frame that leads to a branch target, or to the handler of an exception, from the frame
 //! that is declared there, or the first place at which their comparison asks for a class that is missing (JVMS
 //! 4.10.1.6).
-ghost use Rattle.std.specs.Prelude.{◌≡◌, ◌≢◌, ◌<◌, ◌∷◌, [], None, Some, List, length, option_map, IfOk, IfSome};
+ghost use Rattle.std.specs.Prelude.{◌≡◌, ◌∷◌, [], List, All, is_some, length, option_map, IfOk};
+ghost use Rattle.std.specs.List.Sorted.{IsPermutation};
 ghost use Rattle.classfile.specs.Methods.{ExceptionEntry, Method};
+ghost use Rattle.hierarchy.specs.Answer.{outcome_of};
 ghost use Rattle.insn.specs.Branching.{targets_of};
 ghost use Rattle.insn.specs.Meanings as meanings;
 ghost use Rattle.insn.specs.Views.{act_view};
+ghost use Rattle.frames.specs.FrameAssignable.{frame_answer};
 ghost use Rattle.frames.specs.FrameFact.{frame_of};
 ghost use Rattle.frames.specs.Differences.{difference_of};
+ghost use Rattle.frames.specs.declared.difference.Sought.{Sought};
 ghost use Rattle.type_numbers.specs.Decoding.{type_by};
 ghost use Rattle.type_numbers.specs.Numbers.{IsGiven};
+ghost use Rattle.method_frames.specs.NumberedFrames.{frame_by, declared_frame};
 ghost use Rattle.method_frames.specs.MapFrames.{frames_by};
 ghost use Rattle.numbered_rules.specs.Held.{held};
 ghost use Rattle.rules.specs.After.{with_stack};
 ghost use Rattle.rules.specs.Table.{typing_rule};
 ghost use Rattle.rules.specs.TypingRules.{targets};
-ghost use Rattle.verify.specs.TypeSafety.{caught_frame};
 ghost use Rattle.verify.specs.DifferencesAt.{sought_difference, at_target, at_targets, at_handler, at_handlers, difference_at_of, handler_difference_of};
-ghost use Rattle.verify.specs.private.Unlike.{found_difference, caught_difference, ArePassed};
+ghost use Rattle.verify.specs.private.Ways.{IsWay, IsWayIf, FindsUnlike, IsFirstUnlike, difference_if, first_of_targets, first_of_ways, led_frame, way_difference, with_places};
 ghost use Rattle.verify.specs.private.pass.Exceptions.{IsEntryBy, AreEntriesBy};
 
 use crate::pass::declared::{declared_at, declared_in};
 use crate::pass::exceptions::Entry;
-use crate::place_set::PlaceSet;
 use frames::{Difference, Frame, Sought, first_difference, first_missing, is_sought};
-use hierarchy::Classes;
+use hierarchy::{Answer, Classes};
 use insn::{Act, BranchTargets};
 use method_frames::MethodFrames;
 use rules::branches_by;
@@ -40,13 +43,15 @@ pub struct DifferenceAt<'a> {
     pub difference: Difference<'a>,
 }
 
-/// A declared frame from which another one differs, as is looked for.
-#[derive(Clone, Copy)]
-struct Unlike {
-    /// Its offset, in bytes.
+/// A declared frame to which the running one leads, as it is or with what is caught alone on its stack.
+#[derive(Clone, Copy, Debug)]
+struct Way {
+    /// The offset of the declared frame, in bytes.
     at: usize,
     /// Its place among the declared frames.
     frame: usize,
+    /// The number of the type that is caught, at a handler.
+    caught: Option<u32>,
 }
 
 /// The first difference of a frame from another, or the first place at which their comparison asks for a class that is
@@ -66,132 +71,261 @@ pub fn sought_difference<'a, C: Classes>(
     }
 }
 
-/// The frame that is declared at a target, if the answer for the running frame is the one that is looked for and the
-/// declared frame was not seen before.
-fn unlike_at_target<C: Classes>(
-    sought: Sought,
-    target: i64,
-    seen: &mut PlaceSet,
-    frames: &mut MethodFrames<'_, '_, '_, C>,
-) -> Result<Option<Unlike>, AllocError>
-    requires passed { ArePassed sought frames.old seen.old }
-    ensures same { frames.new ≡ frames.old }
-    ensures passed { IfOk result (λ o. o ≡ None → ArePassed sought frames.old seen.new) }
-    ensures found { let x = frames.old in
-        IfOk result (λ o. at_target sought x.types.classes (frames_by x.types x.declared) (held x) target
-        ≡ found_difference sought x (held x) o) }
-    ensures some { let x = frames.old in IfOk result (λ o. IfSome o (λ _.
-        at_target sought x.types.classes (frames_by x.types x.declared) (held x) target ≢ None)) }
-    ensures place { IfOk result (λ o. IfSome o (λ u. u.frame < length frames.old.declared)) }
+/// The way to a target, if a frame is declared there.
+fn target_way<C: Classes>(target: i64, frames: &MethodFrames<'_, '_, '_, C>) -> Option<Way>
+    ensures way { IsWayIf frames.now result }
+    ensures same { let x = frames.now in (sought : Sought)
+        → at_target sought x.types.classes (frames_by x.types x.declared) (held x) target
+        ≡ difference_if sought x result }
 {
-    let Some(frame) = declared_at(target, frames) else {
-        return Ok(None);
-    };
-    if !seen.put(frame) {
-        return Ok(None);
-    }
-    if !is_sought(sought, frames.answer(frame)?) {
-        return Ok(None);
-    }
-    let at = target as usize;
-    Ok(Some(Unlike { at, frame }))
+    let frame = declared_at(target, frames)?;
+    Some(Way {
+        at: target as usize,
+        frame,
+        caught: None,
+    })
 }
 
-/// The first of the frames that are declared at these targets for which the answer for the running frame is the one
-/// that is looked for.
-fn unlike_target<C: Classes>(
+/// The ways to these targets.
+fn target_ways<C: Classes>(
     alloc: Global,
-    sought: Sought,
     targets: BranchTargets<'_>,
-    frames: &mut MethodFrames<'_, '_, '_, C>,
-) -> Result<Option<Unlike>, AllocError>
-    ensures same { frames.new ≡ frames.old }
-    ensures found { let x = frames.old in
-        IfOk result (λ o. at_targets sought x.types.classes (frames_by x.types x.declared) (held x)
-        (targets_of targets.entry) ≡ found_difference sought x (held x) o) }
-    ensures place { IfOk result (λ o. IfSome o (λ u. u.frame < length frames.old.declared)) }
+    frames: &MethodFrames<'_, '_, '_, C>,
+) -> Result<Vec<Option<Way>>, AllocError>
+    ensures ways { IfOk result (λ ways. All (IsWayIf frames.now) ways.items) }
+    ensures same { let x = frames.now in IfOk result (λ ways. (sought : Sought)
+        → at_targets sought x.types.classes (frames_by x.types x.declared) (held x) (targets_of targets.entry)
+        ≡ first_of_targets sought x ways.items) }
 {
-    let mut seen = PlaceSet::new(alloc);
-    seen.start(frames.count())?;
+    let mut ways = Vec::new(alloc);
     for target in targets {
-        let found = unlike_at_target(sought, target, &mut seen, frames)?;
-        if found.is_some() {
-            return Ok(found);
-        }
+        ways.push(target_way(target, frames))?;
     }
-    Ok(None)
+    Ok(ways)
 }
 
-/// The frame of an entry's handler, if the entry covers the instruction at an offset and the answer for the running
-/// frame with what it catches alone on its stack is the one that is looked for.
-fn unlike_at_handler<C: Classes>(
-    sought: Sought,
+/// The way to the handler of an entry, if it covers the instruction at an offset and a frame is declared at its handler.
+fn handler_way<C: Classes>(
     at: u16,
     entry: &Entry,
-    frames: &mut MethodFrames<'_, '_, '_, C>,
-) -> Option<Unlike>
-    requires { (e : ExceptionEntry) × IsEntryBy frames.old.types e entry.now }
-    ensures same { frames.new ≡ frames.old }
-    ensures found { let x = frames.old in (e : ExceptionEntry) → IsEntryBy x.types e entry.now
+    frames: &MethodFrames<'_, '_, '_, C>,
+) -> Option<Way>
+    requires { (e : ExceptionEntry) × IsEntryBy frames.now.types e entry.now }
+    ensures way { IsWayIf frames.now result }
+    ensures same { let x = frames.now in (sought : Sought) (e : ExceptionEntry) → IsEntryBy x.types e entry.now
         → at_handler sought x.types.classes (frames_by x.types x.declared) at (held x) e
-        ≡ found_difference sought x (caught_frame e (held x)) result }
-    ensures some { let x = frames.old in IfSome result (λ _. (e : ExceptionEntry) → IsEntryBy x.types e entry.now
-        → at_handler sought x.types.classes (frames_by x.types x.declared) at (held x) e ≢ None) }
-    ensures place { IfSome result (λ u. u.frame < length frames.old.declared) }
+        ≡ difference_if sought x result }
 {
     if at < entry.from || at >= entry.to {
         return None;
     }
     let frame = declared_in(entry.handler, frames)?;
-    if !is_sought(sought, frames.answer_caught(frame, entry.caught)) {
-        return None;
-    }
-    let at = usize::from(entry.handler);
-    Some(Unlike { at, frame })
+    Some(Way {
+        at: usize::from(entry.handler),
+        frame,
+        caught: Some(entry.caught),
+    })
 }
 
-/// The place of the first of these entries that covers the instruction and at whose handler a frame is declared for
-/// which the answer for the running frame with what the entry catches alone on its stack is the one that is looked for,
-/// with that declared frame.
-fn unlike_handler<C: Classes>(
-    sought: Sought,
+/// The ways to the handlers of these entries, each in the place of its entry.
+fn handler_ways<C: Classes>(
+    alloc: Global,
     at: u16,
     entries: &[Entry],
-    frames: &mut MethodFrames<'_, '_, '_, C>,
-) -> Option<(usize, Unlike)>
-    requires { (es : List ExceptionEntry) × AreEntriesBy frames.old.types es entries.now }
-    ensures same { frames.new ≡ frames.old }
-    ensures found { let x = frames.old in (es : List ExceptionEntry) → AreEntriesBy x.types es entries.now
+    frames: &MethodFrames<'_, '_, '_, C>,
+) -> Result<Vec<Option<Way>>, AllocError>
+    requires { (es : List ExceptionEntry) × AreEntriesBy frames.now.types es entries.now }
+    ensures ways { IfOk result (λ ways. All (IsWayIf frames.now) ways.items) }
+    ensures same { let x = frames.now in IfOk result (λ ways. (sought : Sought) (es : List ExceptionEntry)
+        → AreEntriesBy x.types es entries.now
         → at_handlers sought x.types.classes (frames_by x.types x.declared) at (held x) 0 es
-        ≡ caught_difference sought x es result }
-    ensures place { IfSome result (λ u. (u.0 < length entries.now) × (u.1.frame < length frames.old.declared)) }
+        ≡ first_of_ways sought x 0 ways.items) }
 {
+    let mut ways = Vec::with_capacity(alloc, entries.len())?;
     for place in 0..entries.len() {
-        if let Some(unlike) = unlike_at_handler(sought, at, &entries[place], frames) {
-            return Some((place, unlike));
-        }
+        ways.push(handler_way(at, &entries[place], frames))?;
     }
-    None
+    Ok(ways)
 }
 
-/// The difference of a frame from a declared one that is looked for, with the offset of that one.
-fn difference_from<'a, C: Classes>(
+/// Whether the running frame may stand where it is led to.
+fn answer<'n, C: Classes>(
+    way: Way,
+    frames: &mut MethodFrames<'_, '_, 'n, C>,
+) -> Result<Answer<'n>, AllocError>
+    requires { IsWay frames.old way }
+    ensures same { frames.new ≡ frames.old }
+    ensures told { let x = frames.old in IfOk result (λ answer. outcome_of answer
+        ≡ frame_answer x.types.classes (led_frame x way.caught) (frame_by x.types (declared_frame x way.frame))) }
+    ensures even { length (declared_frame frames.old way.frame).locals ≡ length frames.old.running.locals }
+{
+    match way.caught {
+        None => frames.answer(way.frame),
+        Some(caught) => Ok(frames.answer_caught(way.frame, caught)),
+    }
+}
+
+/// Whether the answer for a way is the one that is looked for.
+fn is_unlike<C: Classes>(
+    sought: Sought,
+    way: Way,
+    frames: &mut MethodFrames<'_, '_, '_, C>,
+) -> Result<bool, AllocError>
+    requires { IsWay frames.old way }
+    ensures same { frames.new ≡ frames.old }
+    ensures unlike { IfOk result (λ unlike. unlike ≡ is_some (way_difference sought frames.old way)) }
+{
+    let told = answer(way, frames)?;
+    Ok(is_sought(sought, told))
+}
+
+/// The ways that are there, each with its place, in the order of the frames to which they lead.
+fn by_frame(alloc: Global, ways: &[Option<Way>]) -> Result<Vec<(usize, Way)>, AllocError>
+    ensures { IfOk result (λ sorted. IsPermutation (with_places 0 ways.now) sorted.items) }
+{
+    let mut sorted = Vec::new(alloc);
+    for place in 0..ways.len() {
+        if let Some(way) = ways[place] {
+            sorted.push((place, way))?;
+        }
+    }
+    sorted.sort_by_key(|placed| placed.1.frame)?;
+    Ok(sorted)
+}
+
+/// One of these ways for which the answer is the one that is looked for, in front of a place.
+fn unlike_before<C: Classes>(
+    end: usize,
+    sought: Sought,
+    ways: &[(usize, Way)],
+    frames: &mut MethodFrames<'_, '_, '_, C>,
+) -> Result<Option<(usize, Way)>, AllocError>
+    requires { All (λ w. IsWay frames.old w.1) ways.now }
+    ensures same { frames.new ≡ frames.old }
+    ensures found { IfOk result (FindsUnlike sought frames.old end ways.now) }
+{
+    for i in 0..ways.len() {
+        let way = ways[i];
+        if way.0 < end && is_unlike(sought, way.1, frames)? {
+            return Ok(Some(way));
+        }
+    }
+    Ok(None)
+}
+
+/// The first of these ways for which the answer is the one that is looked for, with its place.
+///
+/// Frames that were declared in turn have much in common, so that they are compared in this order, and again in this
+/// order those in front of a place: each time half of the places are left.
+fn first_unlike<C: Classes>(
     alloc: Global,
     sought: Sought,
-    from: &Frame<'a>,
-    unlike: Unlike,
+    ways: &[Option<Way>],
+    frames: &mut MethodFrames<'_, '_, '_, C>,
+) -> Result<Option<(usize, Way)>, AllocError>
+    requires { All (IsWayIf frames.old) ways.now }
+    ensures same { frames.new ≡ frames.old }
+    ensures found { IfOk result (IsFirstUnlike sought frames.old (with_places 0 ways.now)) }
+{
+    let sorted = by_frame(alloc, ways)?;
+    let mut first = None;
+    let mut alike = 0;
+    let mut end = ways.len();
+    while alike < end {
+        let middle = end - (end - alike) / 2;
+        match unlike_before(middle, sought, &sorted, frames)? {
+            Some(unlike) => {
+                end = unlike.0;
+                first = Some(unlike);
+            }
+            None => alike = middle,
+        }
+    }
+    Ok(first)
+}
+
+/// The running frame with a type alone on its stack.
+fn caught_frame<'a, C: Classes>(
+    alloc: Global,
+    caught: u32,
+    frames: &MethodFrames<'_, '_, 'a, C>,
+) -> Result<Frame<'a>, AllocError>
+    requires { IsGiven frames.now.types caught }
+    ensures { let x = frames.now in IfOk result (λ f. frame_of f
+        ≡ with_stack (held x) (type_by x.types caught ∷ [])) }
+{
+    let mut frame = frames.frame(alloc)?;
+    frame.stack.clear();
+    frame.stack.push(frames.types().vtype(caught))?;
+    Ok(frame)
+}
+
+/// The frame that is led to a declared one.
+fn led_frame<'a, C: Classes>(
+    alloc: Global,
+    way: Way,
+    frames: &MethodFrames<'_, '_, 'a, C>,
+) -> Result<Frame<'a>, AllocError>
+    requires { IsWay frames.now way }
+    ensures { IfOk result (λ f. frame_of f ≡ led_frame frames.now way.caught) }
+{
+    match way.caught {
+        None => frames.frame(alloc),
+        Some(caught) => caught_frame(alloc, caught, frames),
+    }
+}
+
+/// The difference on a way that is looked for.
+fn way_difference<'a, C: Classes>(
+    alloc: Global,
+    sought: Sought,
+    way: Way,
     frames: &MethodFrames<'_, '_, 'a, C>,
 ) -> Result<Option<DifferenceAt<'a>>, AllocError>
-    requires { unlike.frame < length frames.now.declared }
-    ensures { IfOk result (λ o. option_map difference_at_of o
-        ≡ found_difference sought frames.now (frame_of from.now) (Some unlike)) }
+    requires { IsWay frames.now way }
+    ensures { IfOk result (λ o. option_map difference_at_of o ≡ way_difference sought frames.now way) }
 {
-    let declared = frames.declared_frame(alloc, unlike.frame)?;
-    match sought_difference(sought, from, &declared, frames.types().classes()) {
+    let from = led_frame(alloc, way, frames)?;
+    let declared = frames.declared_frame(alloc, way.frame)?;
+    match sought_difference(sought, &from, &declared, frames.types().classes()) {
         Some(difference) => Ok(Some(DifferenceAt {
-            at: unlike.at,
+            at: way.at,
             difference,
         })),
+        None => Ok(None),
+    }
+}
+
+/// A difference, if there is one, with the place of the way on which it is.
+fn numbered<'a>(
+    place: usize,
+    difference: Option<DifferenceAt<'a>>,
+) -> Option<(usize, DifferenceAt<'a>)>
+    ensures { option_map handler_difference_of result
+        ≡ option_map (λ d. (place, d)) (option_map difference_at_of difference.entry) }
+{
+    match difference {
+        Some(difference) => Some((place, difference)),
+        None => None,
+    }
+}
+
+/// The difference on the first of these ways on which there is one that is looked for, with the place of the way.
+fn first_difference_on<'a, C: Classes>(
+    alloc: Global,
+    sought: Sought,
+    ways: &[Option<Way>],
+    frames: &mut MethodFrames<'_, '_, 'a, C>,
+) -> Result<Option<(usize, DifferenceAt<'a>)>, AllocError>
+    requires { All (IsWayIf frames.old) ways.now }
+    ensures same { frames.new ≡ frames.old }
+    ensures found { IfOk result (λ o. option_map handler_difference_of o ≡ first_of_ways sought frames.old 0 ways.now) }
+{
+    match first_unlike(alloc, sought, ways, frames)? {
+        Some((place, way)) => {
+            let difference = way_difference(alloc, sought, way, frames)?;
+            Ok(numbered(place, difference))
+        }
         None => Ok(None),
     }
 }
@@ -212,44 +346,11 @@ pub fn target_difference<'a, C: Classes>(
         ≡ at_targets sought x.types.classes (frames_by x.types x.declared) (held x)
         (targets at (typing_rule m (act_view act.now)))) }
 {
-    let targets = BranchTargets::new(at, branches_by(act));
-    match unlike_target(alloc, sought, targets, frames)? {
-        Some(unlike) => {
-            let after = frames.frame(alloc)?;
-            difference_from(alloc, sought, &after, unlike, frames)
-        }
+    let ways = target_ways(alloc, BranchTargets::new(at, branches_by(act)), frames)?;
+    match first_difference_on(alloc, sought, &ways, frames)? {
+        Some((_, difference)) => Ok(Some(difference)),
         None => Ok(None),
     }
-}
-
-/// A difference, if there is one, with the place of an entry.
-fn numbered<'a>(
-    place: usize,
-    difference: Option<DifferenceAt<'a>>,
-) -> Option<(usize, DifferenceAt<'a>)>
-    ensures { option_map handler_difference_of result
-        ≡ option_map (λ d. (place, d)) (option_map difference_at_of difference.entry) }
-{
-    match difference {
-        Some(difference) => Some((place, difference)),
-        None => None,
-    }
-}
-
-/// The running frame with a type alone on its stack.
-fn caught_frame<'a, C: Classes>(
-    alloc: Global,
-    caught: u32,
-    frames: &MethodFrames<'_, '_, 'a, C>,
-) -> Result<Frame<'a>, AllocError>
-    requires { IsGiven frames.now.types caught }
-    ensures { let x = frames.now in IfOk result (λ f. frame_of f
-        ≡ with_stack (held x) (type_by x.types caught ∷ [])) }
-{
-    let mut frame = frames.frame(alloc)?;
-    frame.stack.clear();
-    frame.stack.push(frames.types().vtype(caught))?;
-    Ok(frame)
 }
 
 /// The first difference of the running frame, which is the one before an instruction, with what is caught alone on its
@@ -268,12 +369,6 @@ pub fn handler_difference<'a, C: Classes>(
         → IfOk result (λ o. option_map handler_difference_of o
         ≡ at_handlers sought x.types.classes (frames_by x.types x.declared) at (held x) 0 es) }
 {
-    match unlike_handler(sought, at, entries, frames) {
-        Some((place, unlike)) => {
-            let caught = caught_frame(alloc, entries[place].caught, frames)?;
-            let difference = difference_from(alloc, sought, &caught, unlike, frames)?;
-            Ok(numbered(place, difference))
-        }
-        None => Ok(None),
-    }
+    let ways = handler_ways(alloc, at, entries, frames)?;
+    first_difference_on(alloc, sought, &ways, frames)
 }

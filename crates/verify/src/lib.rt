@@ -26,7 +26,7 @@
 //!
 //! - `pass`: one pass, against the verdict in specs/Verdict.antt, on frames whose types are numbers.
 //! - `flow`: reasons that an answer and the end of the code give; `initial`: whether a method begins with its own object
-//!   uninitialized; `place_set`: sets of declared frames.
+//!   uninitialized.
 //!
 //! Theorems:
 //!
@@ -56,7 +56,6 @@ mod listing;
 mod met_names;
 mod method;
 mod pass;
-mod place_set;
 mod play;
 mod refusal;
 mod report;

@@ -1,16 +1,16 @@
 -- The entries of an exception table while a pass goes over the code.
-use Rattle.std.proofs.Common.{◌≡◌, ◌≢◌, ◌∙◌, ℕ, zero, suc, ◌+◌, ◌≤◌, ◌<◌, Bool, true, false, ◌||◌, nat_lt, nat_le, ◌&&◌, List, [], ◌∷◌, length, get_or, slice_get, drop, Option, Some, None, Result, Ok, if◌then◌else◌, refl, sym, ap, subst, arith}
+use Rattle.std.proofs.Common.{◌≡◌, ◌∙◌, ℕ, zero, suc, ◌+◌, ◌≤◌, ◌<◌, Bool, true, false, ◌||◌, nat_lt, nat_le, ◌&&◌, List, [], ◌∷◌, length, get_or, slice_get, drop, Option, Some, None, Result, if◌then◌else◌, refl, sym, ap, subst, arith}
 use Rattle.std.proofs.lemmas.Bool.Decides.{nat_tests}
 use Rattle.classfile.specs.Methods.{ExceptionEntry, covers}
 use Rattle.hierarchy.specs.Class.{ClassFact}
-use Rattle.hierarchy.specs.Answer.{Outcome, yes, no, missing, outcome_of}
+use Rattle.hierarchy.specs.Answer.{yes, outcome_of}
 use Rattle.hierarchy.specs.declared.answer.Answer.{Answer}
 use Rattle.hierarchy.specs.declared.answer.Answer.TheVariants.{Yes, No, Missing}
 use Rattle.insn.specs.Offsets.{at_offset}
 use Rattle.frames.specs.FrameFact.{FrameFact}
 use Rattle.frames.specs.Slots.{to_reference}
 use Rattle.frames.specs.FrameAssignable.{frame_answer}
-use Rattle.frames.specs.Conditions.{Conditions, least}
+use Rattle.frames.specs.Conditions.{is_no, least}
 use Rattle.type_numbers.specs.Numbers.{Numbering}
 use Rattle.type_numbers.specs.Decoding.{type_by}
 use Rattle.type_numbers.proofs.Decoded.{number_read}
@@ -20,11 +20,11 @@ use Rattle.rules.specs.declared.reason.Reason.{Reason}
 use Rattle.numbered_rules.specs.Held.{held}
 use Rattle.rules.specs.After.{with_stack}
 use Rattle.rules.specs.Outcomes.{Judges}
-use Rattle.verify.specs.TypeSafety.{Frames, caught_frame}
+use Rattle.verify.specs.TypeSafety.{caught_frame}
 use Rattle.verify.specs.Verdict.{answer_conditions, one_handler, is_covered}
 use Rattle.verify.specs.private.Catching.{answer_at, caught_answer}
 use Rattle.verify.specs.declared.pass.handlers.Handler.{Handler}
-use Rattle.verify.specs.private.pass.Following.{IsHandler, AreHandlers, IsTaken, one_handler_at}
+use Rattle.verify.specs.private.pass.Following.{IsHandler, AreHandlers, IsTaken, handler_answer, is_covering, one_handler_at}
 
 -- ---- entries one after the other
 
@@ -88,59 +88,49 @@ pub none_of_yes : (classes : List ClassFact) (o : Option FrameFact) (g : FrameFa
 none_of_yes classes None g e = absurd (cc)
 none_of_yes classes (Some d) g e = ap (λ a. least (answer_conditions 73 a)) e
 
-pub yes_of_none : (classes : List ClassFact) (o : Option FrameFact) (g : FrameFact) → least (one_handler classes o g) ≡ None → answer_at classes o g ≡ yes
-yes_of_none classes None g e = absurd (cc)
-yes_of_none classes (Some d) g e = by (frame_answer classes g d) e
-  where
-    by : (a : Outcome) → least (answer_conditions 73 a) ≡ None → a ≡ yes
-    by yes e = refl
-    by no e = absurd (cc)
-    by (missing name) e = absurd (cc)
+-- an entry has no conditions that hold, where it covers no instruction or the frame comes to its handler
+pub none_if : (classes : List ClassFact) (o : Option FrameFact) (g : FrameFact) (b : Bool) → (b ≡ true → answer_at classes o g ≡ yes) → least (if b then one_handler classes o g else []) ≡ None
+none_if classes o g true y = none_of_yes classes o g (y refl)
+none_if classes o g false y = refl
 
-module _ (classes : List ClassFact) (frames : Frames) (at : ℕ) (f : FrameFact) (e : ExceptionEntry) where
-  abbrev conditions_if : Bool → Conditions
-  conditions_if b = if b then one_handler classes (at_offset frames e.handler) (caught_frame e f) else []
-
-  pub not_covering : covers e at ≡ false → Judges (one_handler_at classes frames at f e) (Ok tt)
-  not_covering b = record { outcome = ap (λ z. least (conditions_if z)) b }
-
--- the answer of the frame in which an exception is caught is that against the entry
-pub covering : (x : NumberedFrames) (at : ℕ) (e : ExceptionEntry) (h : Handler) → IsHandler x.types x.declared e h → covers e at ≡ true → (o : Outcome)
-    → o ≡ frame_answer x.types.classes (frame_by x.types (record x.running { stack = h.caught ∷ [] })) (frame_by x.types (declared_frame x h.frame))
-    → (r : Result Unit Reason) → Judges (answer_conditions 73 o) r → Judges (one_handler_at x.types.classes (frames_by x.types x.declared) at (held x) e) r
-covering x at e h is b o told r j = subst (λ cs. Judges cs r) (sym all) j
-  where
-    classes : List ClassFact
-    classes = x.types.classes
-
-    frames : Frames
-    frames = frames_by x.types x.declared
-
-    type_is : type_by x.types h.caught ≡ to_reference e.caught
-    type_is = number_read x.types h.caught (to_reference e.caught) is.caught
-
-    told_by : o ≡ frame_answer classes (caught_frame e (held x)) (frame_by x.types (declared_frame x h.frame))
-    told_by = told ∙ ap (λ t. frame_answer classes (with_stack (held x) (t ∷ [])) (frame_by x.types (declared_frame x h.frame))) type_is
-
-    all : one_handler_at classes frames at (held x) e ≡ answer_conditions 73 o
-    all =
-        ap (conditions_if classes frames at (held x) e) b
-        ∙ ap (λ d. one_handler classes d (caught_frame e (held x))) is.frame.place.declared
-        ∙ ap (answer_conditions 73) (sym told_by)
-
--- that is the answer about the entry
+-- the answer about an entry is that of the frame in which an exception is caught
 pub caught_is : (x : NumberedFrames) (e : ExceptionEntry) (h : Handler) → IsHandler x.types x.declared e h
-    → caught_answer x.types.classes (frames_by x.types x.declared) (held x) e
-    ≡ frame_answer x.types.classes (frame_by x.types (record x.running { stack = h.caught ∷ [] })) (frame_by x.types (declared_frame x h.frame))
+    → caught_answer x.types.classes (frames_by x.types x.declared) (held x) e ≡ handler_answer x h
 caught_is x e h is =
     let type_is : type_by x.types h.caught ≡ to_reference e.caught = number_read x.types h.caught (to_reference e.caught) is.caught in
     ap (λ d. answer_at x.types.classes d (caught_frame e (held x))) is.frame.place.declared
     ∙ sym (ap (λ t. frame_answer x.types.classes (with_stack (held x) (t ∷ [])) (frame_by x.types (declared_frame x h.frame))) type_is)
 
-pub not_no : (answer : Answer) → (answer ≡ No → ⊥) → outcome_of answer ≢ no
-not_no Yes h e = cc
-not_no No h e = h refl
-not_no (Missing name) h e = cc
+-- an answer that is not no
+pub not_no : (answer : Answer) → (answer ≡ No → ⊥) → is_no (outcome_of answer) ≡ false
+not_no Yes h = refl
+not_no No h = absurd (h refl)
+not_no (Missing name) h = refl
+
+-- and so are the conditions of the entry
+pub caught_conditions : (x : NumberedFrames) (e : ExceptionEntry) (h : Handler) → IsHandler x.types x.declared e h
+    → one_handler x.types.classes (at_offset (frames_by x.types x.declared) e.handler) (caught_frame e (held x)) ≡ answer_conditions 73 (handler_answer x h)
+caught_conditions x e h is =
+    let type_is : type_by x.types h.caught ≡ to_reference e.caught = number_read x.types h.caught (to_reference e.caught) is.caught in
+    ap (λ d. one_handler x.types.classes d (caught_frame e (held x))) is.frame.place.declared
+    ∙ sym (ap (λ t. answer_conditions 73 (frame_answer x.types.classes (with_stack (held x) (t ∷ [])) (frame_by x.types (declared_frame x h.frame)))) type_is)
+
+-- whether an entry covers an offset is known by its handler
+pub covering_is : (at : ℕ) (e : ExceptionEntry) (h : Handler) → h.from ≡ e.from → h.to ≡ e.to → covers e at ≡ is_covering h at
+covering_is at e h from to = sym (ap (λ n. nat_le n at && nat_lt at h.to) from ∙ ap (λ n. nat_le e.from at && nat_lt at n) to)
+
+-- and so are its conditions
+pub entry_conditions : (x : NumberedFrames) (at : ℕ) (e : ExceptionEntry) (h : Handler) → IsHandler x.types x.declared e h
+    → one_handler_at x.types.classes (frames_by x.types x.declared) at (held x) e ≡ (if is_covering h at then answer_conditions 73 (handler_answer x h) else [])
+entry_conditions x at e h is =
+    ap (λ b. if b then one_handler x.types.classes (at_offset (frames_by x.types x.declared) e.handler) (caught_frame e (held x)) else []) (covering_is at e h is.from is.to)
+    ∙ ap (λ cs. if is_covering h at then cs else []) (caught_conditions x e h is)
+
+-- it is judged by them
+pub judged_by : (x : NumberedFrames) (at : ℕ) (e : ExceptionEntry) (h : Handler) → IsHandler x.types x.declared e h → (b : Bool) → b ≡ is_covering h at
+    → (r : Result Unit Reason) → Judges (if b then answer_conditions 73 (handler_answer x h) else []) r → Judges (one_handler_at x.types.classes (frames_by x.types x.declared) at (held x) e) r
+judged_by x at e h is b told r j =
+    subst (λ cs. Judges cs r) (ap (λ z. if z then answer_conditions 73 (handler_answer x h) else []) told ∙ sym (entry_conditions x at e h is)) j
 
 -- and it comes to the handler where that is yes
 pub comes_by : (x : NumberedFrames) (e : ExceptionEntry) (h : Handler) → IsHandler x.types x.declared e h

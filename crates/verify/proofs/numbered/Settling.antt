@@ -19,13 +19,14 @@ use Rattle.numbered_rules.specs.Held.{held}
 use Rattle.verify.specs.TypeSafety.{caught_frame}
 use Rattle.verify.specs.Verdict.{handler_conditions, one_handler, is_covered}
 use Rattle.verify.specs.private.Catching.{answer_at}
-use Rattle.verify.proofs.Caught.{none_against}
+use Rattle.verify.proofs.InTurn.{all_pass}
 use Rattle.verify.specs.declared.pass.handlers.Handler.{Handler}
 use Rattle.verify.specs.declared.pass.handlers.Handlers.{Handlers}
 use Rattle.verify.specs.declared.pass.representatives.Representatives.{Representatives}
 use Rattle.verify.specs.private.pass.Finding.{frame_in}
-use Rattle.verify.specs.private.pass.Following.{IsHandler, IsTaken, Comes, IsOpen, IsSettled, AreBegunTaken, Follows, AreAhead, kept_frame}
+use Rattle.verify.specs.private.pass.Following.{IsHandler, IsTaken, Comes, IsOpen, IsSettled, AreBegunTaken, Follows, AreAhead, kept_frame, one_handler_at}
 use Rattle.verify.specs.private.pass.Representatives.{TakesLocal, TakesChanges, AreRepresentatives}
+use Rattle.verify.proofs.numbered.Following.{none_if}
 use Rattle.verify.proofs.numbered.Starting.{has_handler, covering_open, same_one}
 
 -- ---- two answers that are yes
@@ -158,10 +159,11 @@ module _ (x : NumberedFrames) where
     -- all that cover the offset were compared, and come
     pub none_against_all : AreAhead at h → h.settled ≡ h.begun → AreBegunTaken x at h → least (handler_conditions s.classes (frames_by s ds) at (held x) es) ≡ None
     none_against_all ahead all taken =
-        none_against s.classes (frames_by s ds) at (held x) es (λ place e got here.
+        all_pass (one_handler_at s.classes (frames_by s ds) at (held x)) (handler_conditions s.classes (frames_by s ds) at (held x)) refl (λ e es. refl) es (λ place e got.
+        none_if s.classes (at_offset (frames_by s ds) e.handler) (caught_frame e (held x)) (covers e at) (λ here.
         let t = has_handler s ds es h.table.items place e k.entries got in
         let o = covering_open x es at h k ahead place e t.handler t.got t.is here in
-        taken o.0 t.handler (subst (λ n. IsOpen at n h o.0 t.handler) (sym all) o.1) e t.is)
+        taken o.0 t.handler (subst (λ n. IsOpen at n h o.0 t.handler) (sym all) o.1) e t.is))
 
     -- nothing changed, where all were compared
     pub unchanged : x.running.flag ≡ h.flag → length x.kept ≡ length x.running.locals → ((i : ℕ) → 0 ≤ i → i < length x.running.locals → get_or x.running.locals i 0 ≡ get_or x.kept i 0)

@@ -3,12 +3,10 @@
 use Rattle.std.specs.Prelude.{List, Option, Some, None}
 use Rattle.classfile.specs.Methods.{ExceptionEntry}
 use Rattle.hierarchy.specs.Class.{ClassFact}
-use Rattle.hierarchy.specs.Answer.{Outcome, yes, no, missing}
+use Rattle.hierarchy.specs.Answer.{Outcome, no}
 use Rattle.insn.specs.Offsets.{at_offset}
 use Rattle.frames.specs.FrameFact.{FrameFact}
 use Rattle.frames.specs.FrameAssignable.{frame_answer}
-use Rattle.frames.specs.Conditions.{Reason, reason, class_missing}
-use Rattle.rules.specs.ReasonNumbers.{handler_not_assignable}
 use Rattle.verify.specs.TypeSafety.{Frames, caught_frame}
 
 -- a frame to the one that is declared, if one is
@@ -19,9 +17,3 @@ answer_at classes (Some declared) f = frame_answer classes f declared
 -- the frame with what is caught alone on its stack, to that of the handler
 abbrev pub caught_answer : List ClassFact → Frames → FrameFact → ExceptionEntry → Outcome
 caught_answer classes frames f e = answer_at classes (at_offset frames e.handler) (caught_frame e f)
-
--- the reason that an answer is against the instruction
-abbrev pub caught_reason : Outcome → Option Reason
-caught_reason yes = None
-caught_reason no = Some (reason handler_not_assignable)
-caught_reason (missing name) = Some (class_missing name)

@@ -1,14 +1,15 @@
 //! The exception handlers of a method, while a pass goes over its code (JVMS 4.10.1.6).
-ghost use Rattle.std.specs.Prelude.{◌≡◌, ◌≤◌, ℕ, false, None, Some, List, slice_get, IsTrue, IfOk, OnOk, MatchOption};
-ghost use Rattle.classfile.specs.Methods.{ExceptionEntry, covers};
+ghost use Rattle.std.specs.Prelude.{◌≡◌, ◌≤◌, ℕ, None, Some, List, All, slice_get, IsTrue, IfOk, OnOk, MatchOption};
+ghost use Rattle.std.specs.List.{list_any};
+ghost use Rattle.classfile.specs.Methods.{ExceptionEntry};
 ghost use Rattle.frames.specs.Conditions.{least};
-ghost use Rattle.type_numbers.specs.Numbers.{Numbering};
-ghost use Rattle.method_frames.specs.NumberedFrames.{NumberedFrame, NumberedFrames};
+ghost use Rattle.method_frames.specs.NumberedFrames.{NumberedFrames};
 ghost use Rattle.method_frames.specs.MapFrames.{frames_by};
 ghost use Rattle.numbered_rules.specs.Held.{held};
 ghost use Rattle.rules.specs.Outcomes.{Judges};
 ghost use Rattle.verify.specs.Verdict.{handler_conditions, is_covered};
-ghost use Rattle.verify.specs.private.pass.Following.{IsHandler, AreHandlers, IsTaken, IsUnchanged, Refuses, IsFree, AreOf, AreBegunTaken, Follows, AreAhead, one_handler_at};
+ghost use Rattle.verify.specs.private.InTurn.{IsJudgedInTurn};
+ghost use Rattle.verify.specs.private.pass.Following.{IsHandler, AreHandlers, IsTaken, IsUnchanged, IsOfEntry, AreBegunTaken, Follows, AreAhead, one_handler_at, is_covering, refuses};
 
 use crate::flow::check_answer;
 use crate::pass::representatives::Representatives;
@@ -34,8 +35,7 @@ pub struct Handler {
 
 /// Whether an entry covers an offset.
 fn covers(at: u16, handler: &Handler) -> bool
-    ensures { (s : Numbering) (ds : List (ℕ × NumberedFrame)) (e : ExceptionEntry) → IsHandler s ds e handler.now
-        → result ≡ covers e at }
+    ensures { result ≡ is_covering handler.now at }
 {
     handler.from <= at && at < handler.to
 }
@@ -62,10 +62,9 @@ fn check_handler<'n, C: Classes>(
 /// Whether an entry covers an instruction, and the frame before that may not stand at the handler, with what the entry
 /// catches alone on its stack: whatever classes there are.
 fn refuses<C: Classes>(at: u16, handler: &Handler, frames: &mut MethodFrames<'_, '_, '_, C>) -> bool
-    requires { (e : ExceptionEntry) × IsHandler frames.old.types frames.old.declared e handler.now }
+    requires { IsOfEntry frames.old handler.now }
     ensures same { frames.new ≡ frames.old }
-    ensures refused { IsTrue result → Refuses frames.old at handler.now }
-    ensures free { result ≡ false → IsFree frames.old at handler.now }
+    ensures refused { result ≡ refuses frames.old at handler.now }
 {
     if !covers(at, handler) {
         return false;
@@ -82,12 +81,9 @@ fn any_refuses<C: Classes>(
     handlers: &[Handler],
     frames: &mut MethodFrames<'_, '_, '_, C>,
 ) -> bool
-    requires { (es : List ExceptionEntry) × AreOf frames.old es handlers.now }
+    requires { All (IsOfEntry frames.old) handlers.now }
     ensures same { frames.new ≡ frames.old }
-    ensures refused { IsTrue result → (k : ℕ) × (h : Handler) × (slice_get handlers.now k ≡ Some h)
-        × Refuses frames.old at h }
-    ensures free { result ≡ false → (k : ℕ) (h : Handler) → slice_get handlers.now k ≡ Some h
-        → IsFree frames.old at h }
+    ensures refused { result ≡ list_any (refuses frames.old at) handlers.now }
 {
     for i in 0..handlers.len() {
         if refuses(at, &handlers[i], frames) {
@@ -97,8 +93,8 @@ fn any_refuses<C: Classes>(
     false
 }
 
-/// The frame before an instruction comes to the handler of each entry that covers the instruction, up to the first one for
-/// which a class is missing. No entry refuses the instruction.
+/// The frame before an instruction comes to the handler of each entry that covers the instruction, up to the first one to
+/// whose handler it does not.
 fn check_in_turn<'n, C: Classes>(
     at: u16,
     table: &[Handler],
@@ -106,9 +102,10 @@ fn check_in_turn<'n, C: Classes>(
 ) -> Result<(), Reason<'n>>
     requires { (es : List ExceptionEntry) × AreHandlers frames.old.types frames.old.declared es table.now }
     ensures same { frames.new ≡ frames.old }
-    ensures judged { let x = frames.old in (es : List ExceptionEntry) → AreHandlers x.types x.declared es table.now
-        → ((k : ℕ) (h : Handler) → slice_get table.now k ≡ Some h → IsFree x at h)
-        → Judges (handler_conditions x.types.classes (frames_by x.types x.declared) at (held x) es) result }
+    ensures judged { let x = frames.old in let fs = frames_by x.types x.declared in (es : List ExceptionEntry)
+        → AreHandlers x.types x.declared es table.now
+        → IsJudgedInTurn (one_handler_at x.types.classes fs at (held x))
+        (handler_conditions x.types.classes fs at (held x)) es result }
 {
     for i in 0..table.len() {
         check_handler(at, &table[i], frames)?;
@@ -174,7 +171,8 @@ fn copied(alloc: Global, table: &[Handler]) -> Result<Vec<Handler>, AllocError>
 /// cover it; with the others only by the local variables that changed, and once for all whose frames have the same locals.
 #[derive(Drop)]
 pub struct Handlers {
-    alloc: Global,
+    /// Where the pass takes memory.
+    pub alloc: Global,
     // The entries, in the order of the exception table.
     table: Vec<Handler>,
     // All entries, in the order in which their ranges begin.

@@ -18,21 +18,12 @@ use crate::flow::check_end;
 use crate::pass::handlers::Handlers;
 use crate::pass::members::{check_member, covers_constructor, facts_of};
 use crate::pass::targets::check_targets;
-use crate::place_set::PlaceSet;
 use hierarchy::Classes;
 use insn::Act;
 use method_frames::MethodFrames;
 use numbered_rules::{Body, NamedFacts, run, run_plain};
 use rules::{ClassConstants, Reason, branches_by, first_reason, goes_on, is_plain, together};
-
-/// The declared frames with which the running frame was compared.
-#[derive(Drop)]
-pub struct Compared {
-    /// The entries of the exception table, with which the frames of their handlers are compared.
-    pub handlers: Handlers,
-    /// The places of the frames that are declared at the targets of one instruction, which were compared.
-    pub targets: PlaceSet,
-}
+use std::alloc::Global;
 
 /// The facts about what an instruction names that sets no field of its own class in a constructor, and names no Dynamic
 /// or InvokeDynamic.
@@ -44,12 +35,12 @@ const NO_FACTS: NamedFacts = NamedFacts {
 /// Judges an instruction with this act, in the frame before it, which becomes the frame after: by its rule and its
 /// targets, with the reason that `aside` may hold. It does not judge the frame at the next instruction.
 fn judge_named<'a, C: Classes>(
+    alloc: Global,
     body: &Body<'_, 'a>,
     at: u16,
     act: &Act<'a>,
     facts: NamedFacts,
     aside: Result<(), Reason<'a>>,
-    seen: &mut PlaceSet,
     frames: &mut MethodFrames<'_, '_, 'a, C>,
 ) -> Result<(), Reason<'a>>
     requires locals { length frames.old.running.locals ≡ body.now.method.now.code.now.max_locals }
@@ -67,7 +58,7 @@ fn judge_named<'a, C: Classes>(
     ensures rest { IsRunning frames.old frames.new }
 {
     match run(body, at, act, facts, frames) {
-        Ok(()) => together(check_targets(at, branches_by(act), seen, frames), aside),
+        Ok(()) => together(check_targets(alloc, at, branches_by(act), frames), aside),
         Err(reason) => Err(first_reason(reason, aside)),
     }
 }
@@ -80,15 +71,15 @@ fn judge_wholly<'a, C: Classes>(
     act: &Act<'a>,
     last: bool,
     constants: &mut ClassConstants<'_, '_, 'a, C>,
-    compared: &mut Compared,
+    handlers: &mut Handlers,
     frames: &mut MethodFrames<'_, '_, 'a, C>,
 ) -> Result<(), Reason<'a>>
     requires constants { constants.old.members
         ≡ record { class = body.now.method.now.class.now; classes = frames.old.types.classes } }
     requires locals { length frames.old.running.locals ≡ body.now.method.now.code.now.max_locals }
     requires numbers { AreRuleNumbers frames.old.types (method_view body.now.method.now) body.now.numbers }
-    requires handlers { Follows frames.old (method_view body.now.method.now).exceptions at compared.old.handlers }
-    requires ahead { AreAhead at compared.old.handlers }
+    requires handlers { Follows frames.old (method_view body.now.method.now).exceptions at handlers.old }
+    requires ahead { AreAhead at handlers.old }
     ensures same { constants.new.members ≡ constants.old.members }
     ensures judged { (next : Option ℕ) → is_none next ≡ last →
         let s = frames.old.types in let m = method_view body.now.method.now in let f = held frames.old in
@@ -97,15 +88,15 @@ fn judge_wholly<'a, C: Classes>(
         (after m at p f) (held frames.new) result }
     ensures rest { IsOnward frames.old frames.new }
     ensures handlers { let m = method_view body.now.method.now in
-        OnOk result (Follows frames.new m.exceptions at compared.new.handlers) }
+        OnOk result (Follows frames.new m.exceptions at handlers.new) }
 {
-    let covered = covers_constructor(body.method, at, act, constants, &compared.handlers, frames)?;
+    let covered = covers_constructor(body.method, at, act, constants, handlers, frames)?;
     let facts = facts_of(body.method, act, constants)?;
     let used = check_member(body.method, act, body.numbers.class, constants, frames);
-    let caught = compared.handlers.catch(at, frames);
+    let caught = handlers.catch(at, frames);
     let before = together(used, caught);
     let aside = together(before, check_end(goes_on(act), last, covered));
-    judge_named(body, at, act, facts, aside, &mut compared.targets, frames)
+    judge_named(handlers.alloc, body, at, act, facts, aside, frames)
 }
 
 /// Whether nothing is asked of an instruction but its rule, its targets, the handlers around it, and that it goes on to
@@ -133,14 +124,14 @@ pub fn judge<'a, C: Classes>(
     act: &Act<'a>,
     last: bool,
     constants: &mut ClassConstants<'_, '_, 'a, C>,
-    compared: &mut Compared,
+    handlers: &mut Handlers,
     frames: &mut MethodFrames<'_, '_, 'a, C>,
 ) -> Result<(), Reason<'a>>
     requires constants { constants.old.members
         ≡ record { class = body.now.method.now.class.now; classes = frames.old.types.classes } }
     requires locals { length frames.old.running.locals ≡ body.now.method.now.code.now.max_locals }
     requires numbers { AreRuleNumbers frames.old.types (method_view body.now.method.now) body.now.numbers }
-    requires handlers { Follows frames.old (method_view body.now.method.now).exceptions at compared.old.handlers }
+    requires handlers { Follows frames.old (method_view body.now.method.now).exceptions at handlers.old }
     ensures same { constants.new.members ≡ constants.old.members }
     ensures judged { (next : Option ℕ) → is_none next ≡ last →
         let s = frames.old.types in let m = method_view body.now.method.now in let f = held frames.old in
@@ -149,25 +140,17 @@ pub fn judge<'a, C: Classes>(
         (after m at p f) (held frames.new) result }
     ensures rest { IsOnward frames.old frames.new }
     ensures handlers { let m = method_view body.now.method.now in
-        OnOk result (Follows frames.new m.exceptions at compared.new.handlers) }
+        OnOk result (Follows frames.new m.exceptions at handlers.new) }
 {
-    compared.handlers.come_to(at);
-    if last || !compared.handlers.are_idle(at, frames) {
-        return judge_wholly(body, at, act, last, constants, compared, frames);
+    handlers.come_to(at);
+    if last || !handlers.are_idle(at, frames) {
+        return judge_wholly(body, at, act, last, constants, handlers, frames);
     }
     if is_plain(act) {
         return run_plain(body.method, act, &body.numbers, frames);
     }
     if asks_no_more(act) {
-        return judge_named(
-            body,
-            at,
-            act,
-            NO_FACTS,
-            Ok(()),
-            &mut compared.targets,
-            frames,
-        );
+        return judge_named(handlers.alloc, body, at, act, NO_FACTS, Ok(()), frames);
     }
-    judge_wholly(body, at, act, last, constants, compared, frames)
+    judge_wholly(body, at, act, last, constants, handlers, frames)
 }

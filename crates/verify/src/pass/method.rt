@@ -23,9 +23,7 @@ ghost use Rattle.verify.specs.private.pass.Maps.{DeclaresMap, IsFresh, BeginsWit
 
 use crate::pass::exceptions::{exception_table, handlers_of};
 use crate::pass::handlers::Handlers;
-use crate::pass::judging::Compared;
 use crate::pass::passing::pass;
-use crate::place_set::PlaceSet;
 use crate::refusal::{refuse, stack_map};
 use crate::stack_maps::MapRefusal;
 use crate::verdict::{Verdict, VerifyFault};
@@ -151,13 +149,8 @@ fn judge_code<'a, C: Classes>(
         Ok(table) => table,
         Err(reason) => return refuse(0, reason),
     };
-    let mut targets = PlaceSet::new(alloc);
-    targets.start(frames.count())?;
-    let mut compared = Compared {
-        handlers: Handlers::new(alloc, table)?,
-        targets,
-    };
-    pass(body, constants, &mut compared, frames)
+    let mut handlers = Handlers::new(alloc, table)?;
+    pass(body, constants, &mut handlers, frames)
 }
 
 /// Judges a method with code (JVMS 4.10.1), whose receiver and parameters have types of these numbers: 64 where they do

@@ -14,7 +14,8 @@ ghost use Rattle.verify.specs.private.JudgingSteps.{Gives};
 ghost use Rattle.verify.specs.private.pass.Following.{Follows, IsOnward};
 
 use crate::pass::entering::enter;
-use crate::pass::judging::{Compared, judge};
+use crate::pass::handlers::Handlers;
+use crate::pass::judging::judge;
 use crate::refusal::refuse;
 use crate::verdict::{Verdict, VerifyFault};
 use hierarchy::Classes;
@@ -27,7 +28,7 @@ use rules::{ClassConstants, goes_on};
 pub fn pass<'a, C: Classes>(
     body: &Body<'_, 'a>,
     constants: &mut ClassConstants<'_, '_, 'a, C>,
-    compared: &mut Compared,
+    handlers: &mut Handlers,
     frames: &mut MethodFrames<'_, '_, 'a, C>,
 ) -> Result<Verdict<'a>, VerifyFault>
     requires constants { constants.old.members
@@ -35,7 +36,7 @@ pub fn pass<'a, C: Classes>(
     requires initial { held frames.old ≡ initial_frame (method_view body.now.method.now) }
     requires locals { length frames.old.running.locals ≡ body.now.method.now.code.now.max_locals }
     requires numbers { AreRuleNumbers frames.old.types (method_view body.now.method.now) body.now.numbers }
-    requires handlers { Follows frames.old (method_view body.now.method.now).exceptions 0 compared.old.handlers }
+    requires handlers { Follows frames.old (method_view body.now.method.now).exceptions 0 handlers.old }
     requires spelled { (xs : List (ℕ × Instruction)) × SpellsCode 0 body.now.method.now.code.now.code.now xs }
     requires few { length body.now.method.now.code.now.code.now ≤ MAX_CODE_BYTES }
     ensures same { constants.new.members ≡ constants.old.members }
@@ -53,7 +54,7 @@ pub fn pass<'a, C: Classes>(
         }
         let last = code.is_at_end();
         comes = goes_on(&act);
-        let judged = judge(body, at, &act, last, constants, compared, frames);
+        let judged = judge(body, at, &act, last, constants, handlers, frames);
         if let Err(reason) = judged {
             return refuse(at, reason);
         }

@@ -1,17 +1,18 @@
 -- The entries of an exception table while a pass goes over the code, their handlers by the places of their frames.
-use Rattle.std.specs.Prelude.{◌≡◌, ◌≢◌, ◌⊎◌, ℕ, ◌≤◌, ◌<◌, Bool, true, pos, if◌then◌else◌, List, [], ◌∷◌, length, slice_get, slice_index, Some, None}
+use Rattle.std.specs.Prelude.{◌≡◌, ◌⊎◌, ℕ, ◌≤◌, ◌<◌, Bool, nat_le, nat_lt, ◌&&◌, pos, if◌then◌else◌, List, [], ◌∷◌, length, slice_get, slice_index, Some, None}
 use Rattle.std.specs.List.Sorted.{IsNonDecreasingBy, IsPermutation}
 use Rattle.classfile.specs.Methods.{ExceptionEntry, covers}
 use Rattle.hierarchy.specs.Class.{ClassFact}
-use Rattle.hierarchy.specs.Answer.{yes, no}
+use Rattle.hierarchy.specs.Answer.{Outcome, yes}
 use Rattle.insn.specs.Offsets.{at_offset}
 use Rattle.frames.specs.FrameFact.{FrameFact}
 use Rattle.frames.specs.Slots.{to_reference}
-use Rattle.frames.specs.Conditions.{Conditions}
+use Rattle.frames.specs.FrameAssignable.{frame_answer}
+use Rattle.frames.specs.Conditions.{Conditions, is_no}
 use Rattle.blocks.specs.Rows.{IsFirstUnequal}
 use Rattle.type_numbers.specs.Numbers.{Numbering, IsNumber}
 use Rattle.type_numbers.specs.Decoding.{types_by}
-use Rattle.method_frames.specs.NumberedFrames.{NumberedFrame, NumberedFrames}
+use Rattle.method_frames.specs.NumberedFrames.{NumberedFrame, NumberedFrames, frame_by, declared_frame}
 use Rattle.method_frames.specs.MapFrames.{frames_by}
 use Rattle.numbered_rules.specs.Held.{held}
 use Rattle.verify.specs.TypeSafety.{Frames, caught_frame}
@@ -49,20 +50,22 @@ one_handler_at classes frames at f e =
 abbrev pub IsTaken : Numbering → List (ℕ × NumberedFrame) → FrameFact → ExceptionEntry → Type 0
 IsTaken s ds f e = caught_answer s.classes (frames_by s ds) f e ≡ yes
 
+-- an entry covers an offset
+abbrev pub is_covering : Handler → ℕ → Bool
+is_covering h at = nat_le h.from at && nat_lt at h.to
+
+-- the answer for the running frame with what an entry catches alone on its stack
+abbrev pub handler_answer : NumberedFrames → Handler → Outcome
+handler_answer x h =
+    frame_answer x.types.classes (frame_by x.types (record x.running { stack = h.caught ∷ [] }))
+    (frame_by x.types (declared_frame x h.frame))
+
 -- an entry covers an offset, and the running frame may not stand at its handler, whatever classes there are
-abbrev pub Refuses : NumberedFrames → ℕ → Handler → Type 0
-Refuses x at h = (e : ExceptionEntry) → IsHandler x.types x.declared e h
-    → (covers e at ≡ true) × (caught_answer x.types.classes (frames_by x.types x.declared) (held x) e ≡ no)
+abbrev pub refuses : NumberedFrames → ℕ → Handler → Bool
+refuses x at h = is_covering h at && is_no (handler_answer x h)
 
--- it does not
-abbrev pub IsFree : NumberedFrames → ℕ → Handler → Type 0
-IsFree x at h = (e : ExceptionEntry) → IsHandler x.types x.declared e h → covers e at ≡ true
-    → caught_answer x.types.classes (frames_by x.types x.declared) (held x) e ≢ no
-
--- each is that of an entry of a table
-abbrev pub AreOf : NumberedFrames → List ExceptionEntry → List Handler → Type 0
-AreOf x es hs = (k : ℕ) (h : Handler) → slice_get hs k ≡ Some h
-    → (n : ℕ) × (e : ExceptionEntry) × (slice_get es n ≡ Some e) × IsHandler x.types x.declared e h
+abbrev pub IsOfEntry : NumberedFrames → Handler → Type 0
+IsOfEntry x h = (e : ExceptionEntry) × IsHandler x.types x.declared e h
 
 -- the locals that were kept, in a frame with nothing on its stack
 abbrev pub kept_frame : NumberedFrames → Bool → FrameFact

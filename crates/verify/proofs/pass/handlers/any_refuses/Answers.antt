@@ -1,30 +1,36 @@
-use Rattle.std.proofs.Common.{◌∙◌, get_or, sym, subst, arith}
-use Rattle.std.proofs.lemmas.Option.{slice_get_within}
+use Rattle.std.proofs.Common.{◌∙◌, ◌+◌, ◌||◌, drop, get_or, sym, ap, subst, arith}
+use Rattle.std.specs.List.{list_any}
+use Rattle.std.proofs.lemmas.List.{drop_more, drop_all}
 use Rattle.method_frames.specs.NumberedFrames.{NumberedFrames}
-use Rattle.verify.specs.private.pass.Following.{IsHandler, IsFree, Refuses}
-use Rattle.verify.proofs.numbered.Following.{no_handler, handler_at}
-use Rattle.verify.proofs.numbered.Refusing.{free_more}
+use Rattle.verify.specs.private.pass.Following.{IsOfEntry, refuses}
+use Rattle.verify.proofs.numbered.Following.{no_handler}
 use Rattle.verify.proofs.pass.handlers.any_refuses.Goals as goal
 
 pub refuses-requires : goal.refuses-requires
 refuses-requires g c =
-    let h = get_or c.args.handlers.now c.loop-i.i no_handler in
-    let one = c.requires.1 c.loop-i.i h (handler_at c.args.handlers.now c.loop-i.i c.loop-i-test.true) in
-    (one.1, subst (λ (x : NumberedFrames). IsHandler x.types x.declared one.1 h) (sym c.loop-i.invariant.same) one.3)
+    subst (λ (x : NumberedFrames). IsOfEntry x (get_or c.args.handlers.now c.loop-i.i no_handler)) (sym c.loop-i.invariant.same) (c.requires c.loop-i.i no_handler c.loop-i-test.true)
 
 pub returns-then-refuses-clause-refused : goal.returns-then-refuses-clause-refused
-returns-then-refuses-clause-refused g c = λ t.
-    let h = get_or c.args.handlers.now c.loop-i.i no_handler in
-    (c.loop-i.i, h, handler_at c.args.handlers.now c.loop-i.i c.loop-i-test.true, subst (λ (x : NumberedFrames). Refuses x c.args.at h) c.loop-i.invariant.same (c.refuses.ensures.refused c.if-refuses.true))
+returns-then-refuses-clause-refused g c =
+    let hs = c.args.handlers.now in
+    let i = c.loop-i.i in
+    let any = list_any (refuses c.args.frames.now c.args.at) in
+    sym (c.loop-i.invariant.left ∙ ap any (drop_more hs i no_handler c.loop-i-test.true)
+    ∙ ap (λ b. b || any (drop (i + 1) hs)) (sym (c.refuses.ensures.refused ∙ ap (λ (x : NumberedFrames). refuses x c.args.at (get_or hs i no_handler)) c.loop-i.invariant.same) ∙ c.if-refuses.true))
 
 pub loop-i-preserved : goal.loop-i-preserved
 loop-i-preserved g c =
-    let h = get_or c.args.handlers.now c.loop-i.i no_handler in
+    let hs = c.args.handlers.now in
+    let i = c.loop-i.i in
+    let any = list_any (refuses c.args.frames.now c.args.at) in
     record {
       same = c.refuses.ensures.same ∙ c.loop-i.invariant.same;
-      free = free_more c.args.frames.now c.args.at c.args.handlers.now c.loop-i.i h (handler_at c.args.handlers.now c.loop-i.i c.loop-i-test.true) c.loop-i.invariant.free
-          (subst (λ (x : NumberedFrames). IsFree x c.args.at h) c.loop-i.invariant.same (c.refuses.ensures.free c.if-refuses.false));
+      left =
+          c.loop-i.invariant.left ∙ ap any (drop_more hs i no_handler c.loop-i-test.true)
+          ∙ ap (λ b. b || any (drop (i + 1) hs)) (sym (c.refuses.ensures.refused ∙ ap (λ (x : NumberedFrames). refuses x c.args.at (get_or hs i no_handler)) c.loop-i.invariant.same) ∙ c.if-refuses.false);
     }
 
-pub returns-clause-free : goal.returns-clause-free
-returns-clause-free g c = λ e k h here. c.loop-i.invariant.free k h (let within = slice_get_within c.args.handlers.now k h here in omega (arith, within, c.loop-i-test.false)) here
+pub returns-clause-refused : goal.returns-clause-refused
+returns-clause-refused g c =
+    let any = list_any (refuses c.args.frames.now c.args.at) in
+    sym (c.loop-i.invariant.left ∙ ap any (drop_all c.loop-i.i c.args.handlers.now (omega (arith, c.loop-i-test.false))))

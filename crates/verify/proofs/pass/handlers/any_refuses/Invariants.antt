@@ -1,10 +1,12 @@
-use Rattle.std.proofs.Common.{◌≡◌, ◌<◌, ℕ, Some, slice_get}
-use Rattle.verify.specs.declared.pass.handlers.Handler.{Handler}
-use Rattle.verify.specs.private.pass.Following.{IsFree}
+use Rattle.std.proofs.Common.{◌≡◌, drop}
+use Rattle.std.specs.List.{list_any}
+use Rattle.verify.specs.private.pass.Following.{refuses}
 use Rattle.verify.proofs.pass.handlers.any_refuses.Given as goal
 
 abbrev pub invariant-loop-i : goal.invariant-loop-i
-invariant-loop-i g l = record {
-  same : l.frames ≡ l.fn.frames;
-  free : (k : ℕ) (h : Handler) → k < l.i → slice_get l.handlers k ≡ Some h → IsFree l.fn.frames l.at h;
-}
+invariant-loop-i g l =
+    let any = list_any (refuses l.fn.frames l.at) in
+    record {
+      same : l.frames ≡ l.fn.frames;
+      left : any l.handlers ≡ any (drop l.i l.handlers);
+    }

@@ -1,13 +1,19 @@
-use Rattle.std.proofs.Common.{◌≡◌, ◌<◌, ℕ, true, List, Some, slice_get}
-use Rattle.classfile.specs.Methods.{ExceptionEntry, covers}
+use Rattle.std.proofs.Common.{◌≡◌, List, Result, drop}
+use Rattle.classfile.specs.Methods.{ExceptionEntry}
+use Rattle.method_frames.specs.MapFrames.{frames_by}
 use Rattle.numbered_rules.specs.Held.{held}
-use Rattle.verify.specs.private.pass.Following.{AreHandlers, IsTaken}
+use Rattle.rules.specs.declared.reason.Reason.{Reason}
+use Rattle.verify.specs.Verdict.{handler_conditions}
+use Rattle.verify.specs.private.InTurn.{IsJudgedInTurn}
+use Rattle.verify.specs.private.pass.Following.{AreHandlers, one_handler_at}
 use Rattle.verify.proofs.pass.handlers.check_in_turn.Given as goal
 
 abbrev pub invariant-loop-i : goal.invariant-loop-i
 invariant-loop-i g l =
     let x = l.fn.frames in
+    let fs = frames_by x.types x.declared in
+    let in_turn = IsJudgedInTurn (one_handler_at x.types.classes fs l.at (held x)) (handler_conditions x.types.classes fs l.at (held x)) in
     record {
       same : l.frames ≡ x;
-      taken : (es : List ExceptionEntry) → AreHandlers x.types x.declared es l.table → (k : ℕ) (e : ExceptionEntry) → k < l.i → slice_get es k ≡ Some e → covers e l.at ≡ true → IsTaken x.types x.declared (held x) e;
+      left : (es : List ExceptionEntry) → AreHandlers x.types x.declared es l.table → (r : Result Unit Reason) → in_turn (drop l.i es) r → in_turn es r;
     }

@@ -37,7 +37,7 @@ loop-code-init g c =
       };
       onward = onward_same start;
       constants = refl;
-      handlers = subst (λ n. Follows start m.exceptions n c.args.compared.now.handlers) (sym (ap (λ (p : Place). p.at) c.new-code.ensures)) c.requires.handlers;
+      handlers = subst (λ n. Follows start m.exceptions n c.args.handlers.now) (sym (ap (λ (p : Place). p.at) c.new-code.ensures)) c.requires.handlers;
     }
 
 pub judge-judged-requires-clause-constants : goal.judge-judged-requires-clause-constants
@@ -60,8 +60,8 @@ pub judge-judged-requires-clause-handlers : goal.judge-judged-requires-clause-ha
 judge-judged-requires-clause-handlers g c =
     let m = method_view c.args.body.now.method.now in
     let here = (step_within c.loop-code.code c.take_act-act.new.self (c.at-at.result, c.take_act-act.result) (taken_at c.loop-code.code c.take_act-act.new.self c.at-at.result c.take_act-act.result c.at-at.ensures c.take_act-act.ensures)).0 in
-    let before = subst (λ n. Follows c.loop-code.frames m.exceptions n c.loop-code.compared.handlers) here c.loop-code.invariant.handlers in
-    follows_on c.loop-code.frames c.enter.new.frames c.enter.ensures.rest m.exceptions c.at-at.result c.loop-code.compared.handlers before
+    let before = subst (λ n. Follows c.loop-code.frames m.exceptions n c.loop-code.handlers) here c.loop-code.invariant.handlers in
+    follows_on c.loop-code.frames c.enter.new.frames c.enter.ensures.rest m.exceptions c.at-at.result c.loop-code.handlers before
 
 pub take_act-act-requires : goal.take_act-act-requires
 take_act-act-requires g c =
@@ -143,7 +143,7 @@ loop-code-preserved g c =
       onward = onward_on start c.enter.new.frames c.judge-judged.new.frames onward c.judge-judged.ensures.rest;
       constants = c.judge-judged.ensures.same ∙ c.loop-code.invariant.constants;
       handlers =
-          follows_later c.judge-judged.new.frames m.exceptions x.0 c.take_act-act.new.self.at c.judge-judged.new.compared.handlers
+          follows_later c.judge-judged.new.frames m.exceptions x.0 c.take_act-act.new.self.at c.judge-judged.new.handlers
           (omega (arith, within.0, within.1, within.2)) c.in_default-judged.ensures.handlers;
     }
 

@@ -19,7 +19,7 @@ invariant-loop-code g l =
           (code_judged typing_rule s.classes m (frames_by s ds));
       onward : IsOnward l.fn.frames l.frames;
       constants : l.constants.members ≡ l.fn.constants.members;
-      handlers : Follows l.frames m.exceptions l.code.at l.compared.handlers;
+      handlers : Follows l.frames m.exceptions l.code.at l.handlers;
     }
 
 abbrev pub decreases-loop-code : goal.decreases-loop-code
