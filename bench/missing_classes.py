@@ -51,11 +51,24 @@ def appending_handlers(count, locals_given):
     return made(RETURN + NOP + RETURN * 2 * count, locals_given + count, entries, [handler(1, 2, 2 + 2 * i) for i in range(count)]), refused(1)
 
 
+def two_kinds(locals_given):
+    """The locals of two kinds of frames, which want an Object in each local but the first, or but the second, which asks for Y."""
+    return [first + OBJECT * (locals_given - 2) for first in (MISSING + OBJECT, OBJECT + MISSING)]
+
+
+def targets_in_turn(cases, returns, locals_given):
+    """A switch to so many frames of two kinds: it leads to one of one kind and to one of the other in turn."""
+    behind, half = 16 + 4 * cases, returns // 2
+    to = b"".join(struct.pack(">i", behind + i // 2 % half + i % 2 * half - 2) for i in range(cases))
+    code = RETURN + ICONST_0 + b"\xaa\x00" + struct.pack(">iii", behind - 2, 0, cases - 1) + to + RETURN * returns
+    one, other = two_kinds(locals_given)
+    same = [b"\x00"] * (half - 1)
+    return made(code, locals_given, [all_of(1, OWN * locals_given), all_of(behind - 2, one), *same, all_of(0, other), *same]), refused(2)
+
+
 def handlers_in_turn(count, locals_given):
-    """An instruction under so many handlers. Their frames want an Object in each local but the first, or but the second, which asks for Y: in the
-    table one kind of frames stands in turn with the other."""
-    own, objects = OWN * locals_given, OBJECT * (locals_given - 2)
-    frames = [first + objects for first in (MISSING + OBJECT, OBJECT + MISSING)]
+    """An instruction under so many handlers of two kinds: in the table one kind of frames stands in turn with the other."""
+    own, frames = OWN * locals_given, two_kinds(locals_given)
     entries = [all_of(1, own), *[it for kind in frames for it in [all_of(0, kind, b"\x00"), *[TOP_ON_STACK] * (count // 2 - 1)]]]
     table = [handler(1, 2, 2 + i // 2 + i % 2 * (count // 2)) for i in range(count)]
     return made(RETURN + NOP + RETURN * count, locals_given, entries, table), refused(1)
@@ -67,5 +80,6 @@ FILES = {
     "a switch to 1,500 such frames that append a local and chop it in turn": lambda: targets(15000, 1500, 65000, [APPEND_INT, CHOP_ONE]),
     "4,000 handlers of frames of 60,000 locals that ask for a missing class": lambda: handlers(4000, 60000),
     "2,700 such handlers whose frames have a local more each": lambda: appending_handlers(2700, 60000),
+    "a switch to 1,500 frames of two kinds in turn, of 20,000 locals that ask for a missing class": lambda: targets_in_turn(15000, 1500, 20000),
     "4,000 handlers of two such frames of 20,000 locals in turn": lambda: handlers_in_turn(4000, 20000),
 }
