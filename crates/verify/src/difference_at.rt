@@ -193,7 +193,7 @@ fn by_frame(alloc: Global, ways: &[Option<Way>]) -> Result<Vec<(usize, Way)>, Al
     Ok(sorted)
 }
 
-/// One of these ways for which the answer is the one that is looked for, in front of a place.
+/// One of these ways for which the answer is the one that is looked for and whose place is in front of this one.
 fn unlike_before<C: Classes>(
     end: usize,
     sought: Sought,
@@ -215,8 +215,8 @@ fn unlike_before<C: Classes>(
 
 /// The first of these ways for which the answer is the one that is looked for, with its place.
 ///
-/// Frames that were declared in turn have much in common, so that they are compared in this order, and again in this
-/// order those in front of a place: each time half of the places are left.
+/// Frames that were declared in turn have much in common, so that they are compared in this order, up to one with this
+/// answer. Each of these walks halves the places at which the first one may be.
 fn first_unlike<C: Classes>(
     alloc: Global,
     sought: Sought,

@@ -37,7 +37,7 @@ AreFound x [] [] = Unit {0}
 AreFound x (target ∷ others) (frame ∷ frames) = IsFound x.types x.declared target frame × AreFound x others frames
 AreFound x _ _ = ⊥
 
--- those, or there is a target at which none is declared
+-- there is a target at which no frame is declared, or these are the places of all
 abbrev pub FindsAll : NumberedFrames → List ℤ → Option (Vec ℕ) → Type 0
 FindsAll x targets o =
     MatchOption o (least (all_targets x targets) ≡ Some (reason no_frame_at_target))

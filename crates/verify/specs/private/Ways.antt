@@ -42,7 +42,7 @@ first_of_ways sought x place (w ∷ ws) =
 abbrev pub first_of_targets : Sought → NumberedFrames → List (Option Way) → Option DifferenceAtFact
 first_of_targets sought x ws = option_map (λ d. d.1) (first_of_ways sought x 0 ws)
 
--- those of the ways that are there, with their places; the first of these has this place
+-- the ways that are there, with their places; the first of these has this place
 abbrev pub with_places : ℕ → List (Option Way) → List (ℕ × Way)
 with_places place [] = []
 with_places place (None ∷ ws) = with_places (suc place) ws
