@@ -40,10 +40,10 @@ pub returns-in-InvokeInterface-clause-done : goal.returns-in-InvokeInterface-cla
 returns-in-InvokeInterface-clause-done g c = by_act (method_view c.args.body.now.method.now) c.args.at _ _ _ _ _ _ c.in-InvokeInterface.is (c.invoke_interface.ensures.done c.args.at)
 
 pub returns-in-LoadConstant-clause-done : goal.returns-in-LoadConstant-clause-done
-returns-in-LoadConstant-clause-done g c = by_act (method_view c.args.body.now.method.now) c.args.at _ _ _ _ _ _ c.in-LoadConstant.is (c.load_constant.ensures.done c.args.at)
+returns-in-LoadConstant-clause-done g c = by_act (method_view c.args.body.now.method.now) c.args.at _ _ _ _ _ _ c.in-LoadConstant.is (c.loads_constant.ensures.done c.args.at)
 
 pub returns-in-LoadWideConstant-clause-done : goal.returns-in-LoadWideConstant-clause-done
-returns-in-LoadWideConstant-clause-done g c = by_act (method_view c.args.body.now.method.now) c.args.at _ _ _ _ _ _ c.in-LoadWideConstant.is (c.load_wide_constant.ensures.done c.args.at)
+returns-in-LoadWideConstant-clause-done g c = by_act (method_view c.args.body.now.method.now) c.args.at _ _ _ _ _ _ c.in-LoadWideConstant.is (c.loads_constant-in-LoadWideConstant.ensures.done c.args.at)
 
 pub returns-in-NewReferenceArray-clause-done : goal.returns-in-NewReferenceArray-clause-done
 returns-in-NewReferenceArray-clause-done g c = by_act (method_view c.args.body.now.method.now) c.args.at _ _ _ _ _ _ c.in-NewReferenceArray.is (c.new_reference_array.ensures.done c.args.at)
