@@ -23,7 +23,7 @@ use Rattle.verify.specs.Coming.{FramesFact, no_frames, frames_at, frames_view, H
 some_same : {A : Type 0} (a b : A) → Some a ≡ Some b → a ≡ b
 some_same a b e = cc
 
-told : (code : List ℕ) (fault : CodeFault) → fault ≢ codes.OutOfMemory → UnlessMemory fault (FaultyCode code fault) → FaultyCode code fault
+pub told : (code : List ℕ) (fault : CodeFault) → fault ≢ codes.OutOfMemory → UnlessMemory fault (FaultyCode code fault) → FaultyCode code fault
 told code codes.OutOfMemory f h = absurd (f refl)
 told code (codes.BadOpcode at) f h = h
 told code (codes.CutInstruction at) f h = h

@@ -25,6 +25,7 @@ use numbered_rules::Body;
 use rules::{ClassConstants, goes_on};
 
 /// Judges code, by one pass over its bytes that carries one frame, the one with which the method begins.
+#[inline(never)]
 pub fn pass<'a, C: Classes>(
     body: &Body<'_, 'a>,
     constants: &mut ClassConstants<'_, '_, 'a, C>,

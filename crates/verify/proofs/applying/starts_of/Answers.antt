@@ -1,20 +1,12 @@
-use Rattle.std.proofs.Common.{◌≡◌, ◌≢◌, ◌∙◌, ℕ, List, Ok, Err, refl, sym}
-use Rattle.insn.specs.Code.{FaultyCode, UnlessMemory}
+use Rattle.std.proofs.Common.{◌≡◌, ◌∙◌, ℕ, List, Ok, Err, sym}
+use Rattle.insn.specs.Code.{FaultyCode}
 use Rattle.insn.specs.declared.fault.CodeFault.{CodeFault}
-use Rattle.insn.specs.declared.fault.CodeFault.TheVariants as codes
 use Rattle.insn.specs.Instructions.{Instruction}
 use Rattle.insn.specs.Readings.{Reading, reading_of}
 use Rattle.insn.specs.Views.{views}
 use Rattle.insn.proofs.Readings.{only_reading}
+use Rattle.verify.proofs.FramesFound.{told}
 use Rattle.verify.proofs.applying.starts_of.Goals as goal
-
-told : (code : List ℕ) (fault : CodeFault) → fault ≢ codes.OutOfMemory → UnlessMemory fault (FaultyCode code fault) → FaultyCode code fault
-told code codes.OutOfMemory f h = absurd (f refl)
-told code (codes.BadOpcode at) f h = h
-told code (codes.CutInstruction at) f h = h
-told code (codes.BadSwitch at) f h = h
-told code (codes.BadWide at) f h = h
-told code (codes.NonZeroByte at) f h = h
 
 -- code that was read has no fault
 no_fault : (code : List ℕ) (xs : List (ℕ × Instruction)) (fault : CodeFault) → reading_of code ≡ Ok xs → FaultyCode code fault → ⊥
