@@ -1,8 +1,14 @@
-use Rattle.std.proofs.Common.{Result, Bool, Err, sym, subst}
+use Rattle.std.proofs.Common.{◌≡◌, ℕ, List, Result, Bool, Err, sym, subst}
+use Rattle.std.specs.Result.{IsErrAnd}
 use Rattle.std.proofs.lemmas.Result.{err_from_is_err_and}
+use Rattle.classfile.specs.Methods.{Method}
+use Rattle.hierarchy.specs.Class.{ClassFact}
+use Rattle.insn.specs.Meanings.{Act}
 use Rattle.insn.specs.Views.{act_view}
+use Rattle.frames.specs.FrameFact.{FrameFact}
 use Rattle.numbered_rules.specs.Held.{held}
 use Rattle.rules.specs.Bodies.{method_view}
+use Rattle.rules.specs.declared.reason.Reason.TheVariants.{OutOfMemory}
 use Rattle.rules.specs.Protected.{member_conditions}
 use Rattle.rules.specs.Rules.{conditions}
 use Rattle.rules.specs.Table.{typing_rule}
@@ -12,25 +18,22 @@ use Rattle.verify.specs.private.Judged.{JudgesRule}
 use Rattle.verify.proofs.Applied.{stops, refuses, passes}
 use Rattle.verify.proofs.applying.judge.Goals as goal
 
+-- memory runs out before the rule is run
+no_memory : (classes : List ClassFact) (m : Method Act) (at : ℕ) (a : Act) (f : FrameFact) (r : Result Bool Refusal) → IsErrAnd r (λ e. e.reason ≡ OutOfMemory) → JudgesRule classes m at a (typing_rule m a) f f r
+no_memory classes m at a f r h =
+    let e = err_from_is_err_and r h in
+    let p = typing_rule m a in
+    subst (λ (x : Result Bool Refusal). JudgesRule classes m at a p f f x) (sym e.1) (stops classes m at a p f f e.0 e.2)
+
 pub returns-in_err-own-clause-judged : goal.returns-in_err-own-clause-judged
 returns-in_err-own-clause-judged g c =
-    let classes = c.args.frames.now.types.classes in
-    let m = method_view c.args.body.now.method.now in
-    let a = act_view c.args.act.now in
-    let p = typing_rule m a in
-    let f = held c.args.frames.now in
-    let e = err_from_is_err_and c.from_residual.result c.from_residual.ensures.1 in
-    subst (λ (r : Result Bool Refusal). JudgesRule classes m c.args.at a p f f r) (sym e.1) (stops classes m c.args.at a p f f e.0 e.2)
+    no_memory c.args.frames.now.types.classes (method_view c.args.body.now.method.now) c.args.at (act_view c.args.act.now) (held c.args.frames.now)
+    c.from_residual.result c.from_residual.ensures.1
 
 pub returns-in_err-facts-clause-judged : goal.returns-in_err-facts-clause-judged
 returns-in_err-facts-clause-judged g c =
-    let classes = c.args.frames.now.types.classes in
-    let m = method_view c.args.body.now.method.now in
-    let a = act_view c.args.act.now in
-    let p = typing_rule m a in
-    let f = held c.args.frames.now in
-    let e = err_from_is_err_and c.from_residual-in_err-facts.result c.from_residual-in_err-facts.ensures.1 in
-    subst (λ (r : Result Bool Refusal). JudgesRule classes m c.args.at a p f f r) (sym e.1) (stops classes m c.args.at a p f f e.0 e.2)
+    no_memory c.args.frames.now.types.classes (method_view c.args.body.now.method.now) c.args.at (act_view c.args.act.now) (held c.args.frames.now)
+    c.from_residual-in_err-facts.result c.from_residual-in_err-facts.ensures.1
 
 pub returns-in-Err-clause-judged : goal.returns-in-Err-clause-judged
 returns-in-Err-clause-judged g c =
