@@ -1,12 +1,16 @@
-use Rattle.std.proofs.Common.{◌∙◌, Result, Ok, Err, sym, ap, subst}
+use Rattle.std.proofs.Common.{◌≡◌, ◌∙◌, ℕ, List, Result, Ok, Err, sym, ap, subst}
+use Rattle.std.specs.Result.{IsErrAnd}
 use Rattle.std.proofs.lemmas.Result.{err_from_is_err_and}
+use Rattle.classfile.specs.Methods.{Method}
 use Rattle.classfile.specs.Views.{class_view}
-use Rattle.insn.specs.Meanings.{act}
+use Rattle.hierarchy.specs.Class.{ClassFact}
+use Rattle.insn.specs.Meanings.{Act, act}
 use Rattle.insn.specs.Views.{act_view, view}
-use Rattle.frames.specs.FrameFact.{frame_of}
+use Rattle.frames.specs.FrameFact.{FrameFact, frame_of}
 use Rattle.numbered_rules.specs.Held.{held}
 use Rattle.numbered_rules.specs.Running.{AreRuleNumbers}
 use Rattle.rules.specs.Bodies.{method_view}
+use Rattle.rules.specs.declared.reason.Reason.TheVariants.{OutOfMemory}
 use Rattle.rules.specs.Table.{typing_rule}
 use Rattle.type_numbers.specs.Numbers.{Numbering}
 use Rattle.verify.specs.Applied.{Applied}
@@ -15,28 +19,25 @@ use Rattle.verify.specs.declared.applying.Refusal.{Refusal}
 use Rattle.verify.proofs.Applied.{stopped, refused, applied, judged_as}
 use Rattle.verify.proofs.applying.apply_numbered.Goals as goal
 
+-- memory runs out before the instruction is judged or after it
+no_memory : (classes : List ClassFact) (m : Method Act) (at : ℕ) (a : Act) (f : FrameFact) (r : Result After Refusal) → IsErrAnd r (λ e. e.reason ≡ OutOfMemory) → Applied classes m at a (typing_rule m a) f r
+no_memory classes m at a f r h =
+    let e = err_from_is_err_and r h in
+    let p = typing_rule m a in
+    subst (λ (x : Result After Refusal). Applied classes m at a p f x) (sym e.1) (stopped classes m at a p f f e.0 e.2)
+
 pub returns-in_err-starts : goal.returns-in_err-starts
 returns-in_err-starts g c =
-    let classes = c.args.types.now.classes in
-    let m = method_view c.args.env.now.method in
-    let a = act (view c.args.insn.now) in
-    let p = typing_rule m a in
-    let f = frame_of c.args.frame.now in
-    let e = err_from_is_err_and c.from_residual.result c.from_residual.ensures.1 in
-    subst (λ (r : Result After Refusal). Applied classes m c.args.at a p f r) (sym e.1) (stopped classes m c.args.at a p f f e.0 e.2)
+    no_memory c.args.types.now.classes (method_view c.args.env.now.method) c.args.at (act (view c.args.insn.now)) (frame_of c.args.frame.now)
+    c.from_residual.result c.from_residual.ensures.1
 
 pub begin-requires-clause-numbered : goal.begin-requires-clause-numbered
 begin-requires-clause-numbered g c = (class_view c.args.env.now.method.class.now, c.requires.numbered)
 
 pub returns-in_err-frames : goal.returns-in_err-frames
 returns-in_err-frames g c =
-    let classes = c.args.types.now.classes in
-    let m = method_view c.args.env.now.method in
-    let a = act (view c.args.insn.now) in
-    let p = typing_rule m a in
-    let f = frame_of c.args.frame.now in
-    let e = err_from_is_err_and c.from_residual-in_err-frames.result c.from_residual-in_err-frames.ensures.1 in
-    subst (λ (r : Result After Refusal). Applied classes m c.args.at a p f r) (sym e.1) (stopped classes m c.args.at a p f f e.0 e.2)
+    no_memory c.args.types.now.classes (method_view c.args.env.now.method) c.args.at (act (view c.args.insn.now)) (frame_of c.args.frame.now)
+    c.from_residual-in_err-frames.result c.from_residual-in_err-frames.ensures.1
 
 pub judge_alone-requires-clause-numbers : goal.judge_alone-requires-clause-numbers
 judge_alone-requires-clause-numbers g c =
@@ -59,13 +60,8 @@ returns-in_err-own g c =
 
 pub returns-in_err-leave : goal.returns-in_err-leave
 returns-in_err-leave g c =
-    let classes = c.args.types.now.classes in
-    let m = method_view c.args.env.now.method in
-    let a = act (view c.args.insn.now) in
-    let p = typing_rule m a in
-    let f = frame_of c.args.frame.now in
-    let e = err_from_is_err_and c.from_residual-in_err-leave.result c.from_residual-in_err-leave.ensures.1 in
-    subst (λ (r : Result After Refusal). Applied classes m c.args.at a p f r) (sym e.1) (stopped classes m c.args.at a p f f e.0 e.2)
+    no_memory c.args.types.now.classes (method_view c.args.env.now.method) c.args.at (act (view c.args.insn.now)) (frame_of c.args.frame.now)
+    c.from_residual-in_err-leave.result c.from_residual-in_err-leave.ensures.1
 
 pub returns : goal.returns
 returns g c =
