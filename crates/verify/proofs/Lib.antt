@@ -22,6 +22,7 @@ pub mod Detailed
 pub mod Onward
 pub mod Summaries
 pub mod MethodCode
+pub mod InitialNumbers
 pub mod Named
 pub mod Formed
 pub mod Playing

@@ -1,4 +1,3 @@
-use Rattle.std.proofs.Common.{◌∙◌, sym, ap, subst}
 use Rattle.std.specs.Option.{option_map}
 use Rattle.names.specs.Types.{type_of}
 use Rattle.classfile.specs.CodeMethods.{class_of, code_method_view}
@@ -9,10 +8,8 @@ use Rattle.insn.specs.Meanings.{Act}
 use Rattle.insn.specs.Offsets.{acts}
 use Rattle.insn.specs.Readings.{instructions_in}
 use Rattle.rules.specs.Bodies.{method_view}
-use Rattle.type_numbers.specs.Decoding.{types_by}
-use Rattle.type_numbers.specs.MethodNumbers.{AreNumbers}
 use Rattle.verify.specs.InitialFrames.{initial_types}
-use Rattle.verify.proofs.numbered.ClassTyped.{numbers_read, each_given}
+use Rattle.verify.proofs.InitialNumbers.{kept_read, kept_given}
 use Rattle.verify.proofs.MethodCode.{little_code}
 use Rattle.verify.proofs.Decoded.{read_spelled}
 use Rattle.verify.proofs.verdicts.Answering.{bad_code, given}
@@ -23,15 +20,12 @@ judge_body-requires-clause-few g c = let m = c.args.method in
     little_code (class_view m.class.now) c.requires.formed m.number (code_view m.code.now) c.requires.coded
 
 pub judge_body-requires-clause-initial : goal.judge_body-requires-clause-initial
-judge_body-requires-clause-initial g c =
-    let s = c.args.frames.now.types in
-    ap (types_by s) c.deref.ensures.value ∙ numbers_read s c.in_ok-initial.initial.items (initial_types (method_view c.args.method)) (c.in_ok-initial.ensures s c.requires.types)
+judge_body-requires-clause-initial g c = let s = c.args.frames.now.types in
+    kept_read s c.deref.result.now c.in_ok-initial.initial.items (initial_types (method_view c.args.method)) c.deref.ensures.value (c.in_ok-initial.ensures s c.requires.types)
 
 pub judge_body-requires-clause-given : goal.judge_body-requires-clause-given
-judge_body-requires-clause-given g c =
-    let s = c.args.frames.now.types in
-    each_given s c.deref.result.now (initial_types (method_view c.args.method))
-    (subst (λ ns. AreNumbers s ns (initial_types (method_view c.args.method))) (sym c.deref.ensures.value) (c.in_ok-initial.ensures s c.requires.types))
+judge_body-requires-clause-given g c = let s = c.args.frames.now.types in
+    kept_given s c.deref.result.now c.in_ok-initial.initial.items (initial_types (method_view c.args.method)) c.deref.ensures.value (c.in_ok-initial.ensures s c.requires.types)
 
 pub new-requires : goal.new-requires
 new-requires g c = let m = c.args.method in
