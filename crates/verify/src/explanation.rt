@@ -82,29 +82,28 @@ fn frames_at<'a, C: Classes>(
 }
 
 /// The verdicts on the methods of a class that the hierarchy has as it is, and where they are asked for, the frames of
-/// each method, as long as those in front have fewer types than [`MOST_KEPT`]. The numbers of the class's types, the
-/// frames and one table of constants serve all methods.
-pub fn explain_listed<'a, C: Classes>(
+/// each method, as long as those in front have fewer types than [`MOST_KEPT`]. The types are those of the class. One
+/// table of constants serves all methods.
+fn explain_methods<'a, C: Classes>(
     alloc: Global,
     formed: &Formed<'_, 'a>,
     framed: bool,
-    classes: &C,
+    types: &ClassTypes,
+    frames: &mut MethodFrames<'_, '_, 'a, C>,
 ) -> Result<Explained<'a>, VerifyFault>
-    requires hierarchy { IsHierarchy (C.content classes.now) }
-    requires listed { IsListed (C.content classes.now) (class_view formed.now.class.now) }
-    ensures found { IfOk result (IsExplained framed (C.content classes.now) (judged_class formed.now)) }
+    requires hierarchy { IsHierarchy frames.old.types.classes }
+    requires listed { IsListed frames.old.types.classes (class_view formed.now.class.now) }
+    requires types { AreClassTypes frames.old.types (class_view formed.now.class.now) types.now }
+    ensures found { IfOk result (IsExplained framed frames.old.types.classes (judged_class formed.now)) }
     ensures memory { IfErr result (λ e. e ≡ OutOfMemory) }
 {
+    let class = formed.class();
+    let mut constants = ClassConstants::new(alloc, class, frames.types().classes());
     let mut methods = Vec::new(alloc);
     let mut all = Vec::new(alloc);
-    let class = formed.class();
-    let mut numbers = TypeNumbers::new(alloc, classes);
-    let types = ClassTypes::new(alloc, class, &mut numbers)?;
-    let mut constants = ClassConstants::new(alloc, class, classes);
-    let mut frames = MethodFrames::new(alloc, &numbers, 0, 0, false)?;
     let mut left = MOST_KEPT;
     for number in 0..class.methods.len() {
-        let verdict = report_on(alloc, formed, number, &types, &mut constants, &mut frames)?;
+        let verdict = report_on(alloc, formed, number, types, &mut constants, frames)?;
         if framed {
             let refusal = refusal_by(&verdict.verdict, left > 0);
             let met = frames_at(
@@ -112,9 +111,9 @@ pub fn explain_listed<'a, C: Classes>(
                 formed,
                 number,
                 refusal,
-                &types,
+                types,
                 &mut constants,
-                &mut frames,
+                frames,
             )?;
             left = met.taken_off(left);
             all.push(met)?;
@@ -126,4 +125,24 @@ pub fn explain_listed<'a, C: Classes>(
         report,
         frames: all,
     })
+}
+
+/// The verdicts on the methods of a class that the hierarchy has as it is, and where they are asked for, the frames of
+/// each method that is refused. The numbers of the class's types and the frames serve all methods.
+pub fn explain_listed<'a, C: Classes>(
+    alloc: Global,
+    formed: &Formed<'_, 'a>,
+    framed: bool,
+    classes: &C,
+) -> Result<Explained<'a>, VerifyFault>
+    requires hierarchy { IsHierarchy (C.content classes.now) }
+    requires listed { IsListed (C.content classes.now) (class_view formed.now.class.now) }
+    ensures found { IfOk result (IsExplained framed (C.content classes.now) (judged_class formed.now)) }
+    ensures memory { IfErr result (λ e. e ≡ OutOfMemory) }
+{
+    let class = formed.class();
+    let mut numbers = TypeNumbers::new(alloc, classes);
+    let types = ClassTypes::new(alloc, class, &mut numbers)?;
+    let mut frames = MethodFrames::new(alloc, &numbers, 0, 0, false)?;
+    explain_methods(alloc, formed, framed, &types, &mut frames)
 }
