@@ -1,4 +1,4 @@
--- What an entry leaves: its locals, all locals of its frame, and how much it all is.
+-- The locals that an entry leaves, all locals of its frame, and how much it all is.
 use Rattle.std.proofs.Common.{◌≡◌, ◌∙◌, ℕ, zero, suc, ◌-◌, ◌≤◌, List, ◌∷◌, ◌++◌, length, map, reverse, take, replicate, refl, sym, ap, arith}
 use Rattle.std.proofs.lemmas.List.{length-map, map-append, take-map, take_all}
 use Rattle.frames.specs.declared.vtype.VType.{VType}

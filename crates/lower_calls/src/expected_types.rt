@@ -1,4 +1,4 @@
-//! What instructions name, the ways that they go, the first operand that a frame lacks, and reasons together.
+//! The constants that instructions name, their ways, the first operand that a frame lacks, and reasons together.
 use crate::making::{B, CLONING, CONSTRUCTING, cloneable, frame, hasher};
 use classfile::{ClassFile, CodeMethod, Formed, decode, form_check};
 use format_calls::making::OUT_OF_MEMORY;
