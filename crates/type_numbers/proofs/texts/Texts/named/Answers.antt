@@ -4,7 +4,7 @@ use Rattle.type_numbers.specs.private.Entries.{IsEntryDescribed}
 use Rattle.type_numbers.specs.private.Readings.{shared_row}
 use Rattle.type_numbers.proofs.FieldEntries.{other_described}
 use Rattle.type_numbers.proofs.MethodReadings.{goes_nowhere}
-use Rattle.type_numbers.proofs.texts.Texts.constant.Goals as goal
+use Rattle.type_numbers.proofs.texts.Texts.named.Goals as goal
 
 pub returns-in_default-clause-grown : goal.returns-in_default-clause-grown
 returns-in_default-clause-grown g c = goes_nowhere (shared_row c.args.self.now)
