@@ -5,7 +5,7 @@ use Rattle.std.proofs.lemmas.List.{append-nil}
 use Rattle.std.specs.Prelude.{nat_eq, if◌then◌else◌}
 use Rattle.layout.specs.Format.{Format, done, part, refuse, Spells, andthen, number, times, inside}
 use Rattle.layout.specs.FormatLaws.{andthen_parts, andthen_spelled}
-use Rattle.layout.specs.PieceLaws.{inside_spells}
+use Rattle.layout.specs.AttributeLaws.{inside_spells}
 use Rattle.layout.specs.declared.fault.ReadFault.TheVariants.{BadPoolCount}
 use Rattle.classfile.specs.Locations.{is_code, is_record}
 use Rattle.classfile.specs.Layouts.{AttributeLayout, layout_at}

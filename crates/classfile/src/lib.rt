@@ -25,8 +25,7 @@
 //! | `decoding`, `encoding` | the two calls |
 //! | `outline`, `reading` | [`read_class`], and how far a class reaches in a stream |
 //! | `file_parts`, `skipping` | [`fault_part`], in which part of a file a fault of its bytes lies |
-//! | `form` | [`form_check`], [`Formed`], and the places one after the other |
-//! | `profile` | [`Profile`], how the methods of a class are judged |
+//! | `form` | [`form_check`], [`Formed`], and the places one after the other; [`Profile`], how methods are judged |
 //! | `form_fault` | [`FormRule`], [`Place`] and [`FormFault`] |
 //! | `constant_form`, `class_form`, `member_form`, `attribute_form` | which rule is broken at a place |
 //! | `number_form` | which rule is broken by an index in an attribute of numbers |
@@ -74,7 +73,6 @@ mod number_form;
 mod numbers;
 mod outline;
 mod own_fields;
-mod profile;
 mod reading;
 mod record_form;
 mod repeated_attributes;
@@ -94,7 +92,7 @@ pub use component::Component;
 pub use decoding::decode;
 pub use encoding::encode;
 pub use file_parts::{FilePart, fault_part};
-pub use form::{Formed, form_check};
+pub use form::{Formed, Profile, form_check};
 pub use form_fault::{FormFault, FormRule, Place};
 pub use laws::{
     body_spells_rows, class_is_outline, class_or_fault, formed_has_names, formed_or_faulty,
@@ -107,5 +105,4 @@ pub use member::Member;
 pub use nested::NestedAttribute;
 pub use numbers::Numbers;
 pub use own_fields::{OwnFields, declares_field};
-pub use profile::Profile;
 pub use reading::{CutShort, read_class};

@@ -7,6 +7,7 @@ pub mod Whole
 pub mod Numbers
 pub mod Pieces
 pub mod PieceLaws
+pub mod AttributeLaws
 pub mod Gathered
 pub mod Streams
 pub mod StreamLaws

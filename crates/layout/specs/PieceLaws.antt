@@ -1,22 +1,21 @@
--- Words of the code's own steps: of them a reader must believe `Writes` with `Made`, `counted`, and `Either` with
--- `name_of`; the others are lemmas. `Writes f pieces` says that f spells exactly the values whose pieces are plain,
+-- Words of the code's own steps: of them a reader must believe `Writes` with `Made`, and `counted`; the others are
+-- lemmas. `Writes f pieces` says that f spells exactly the values whose pieces are plain,
 -- each by its pieces, part by part as the format is.
-use Rattle.std.proofs.Common.{get_or, map, ◌≡◌, ℕ, ◌+◌, ◌-◌, ◌^◌, ◌<◌, ◌≤◌, Bool, true, false, cond, ◌||◌, Option, Some, None, ltb, eqb, zero, suc, List, [], ◌∷◌, ◌++◌, length, take, drop, Result, Ok, Err, refl, sym, ap, subst, ◌∙◌, append_assoc, arith}
+use Rattle.std.proofs.Common.{get_or, map, ◌≡◌, ℕ, ◌+◌, ◌-◌, ◌^◌, ◌<◌, ◌≤◌, Bool, true, false, cond, ◌||◌, Option, Some, None, ltb, zero, suc, List, [], ◌∷◌, ◌++◌, length, take, drop, Result, Ok, Err, refl, sym, ap, subst, ◌∙◌, append_assoc, arith}
 use Rattle.std.specs.List.{flat_map}
 use Rattle.std.specs.Prelude.{MatchResult}
-use Rattle.std.proofs.lemmas.Bool.{eqb-true, eq-eqb, ltb-false, ltb-true, le-ltb, lt-ltb}
-use Rattle.std.proofs.lemmas.List.{length-append, length-drop, length-take, append-nil, take_at, drop_at, drop-drop, nil_from_length, take-append-drop, take_all}
+use Rattle.std.proofs.lemmas.Bool.{ltb-false, ltb-true, le-ltb, lt-ltb}
+use Rattle.std.proofs.lemmas.List.{length-append, length-drop, length-take, append-nil, take_at, drop_at, drop-drop, nil_from_length, take_all}
 pub use Rattle.std.specs.Prelude.{not}
 use Rattle.byteorder.specs.Endian.{big_bytes}
 use Rattle.layout.specs.declared.fault.WriteFault.{WriteFault}
 use Rattle.layout.specs.declared.fault.WriteFault.TheVariants.{DoesNotFit, HasNoSpelling, OutOfMemory}
-use Rattle.layout.specs.declared.fault.ReadFault.TheVariants.{AttributeLength}
-use Rattle.layout.specs.Format.{AreBytes, Format, done, part, refuse, Spells, andthen, number, times, inside}
+use Rattle.layout.specs.Format.{AreBytes, Format, done, part, refuse, Spells, andthen, number, times}
 use Rattle.layout.specs.FormatLaws.{AreBytes-parts, andthen_spelled, andthen_parts, NumberLaw, number_is, number_spelled, headed}
 use Rattle.layout.specs.Numbers.{number_below}
 use Rattle.layout.specs.Faults.{UnlessWriteMemory}
 use Rattle.layout.specs.declared.limits.TheConstants.{MAX_CLASS_BYTES}
-use Rattle.layout.specs.Pieces.{has_over, has_unspelled, too_large, cannot, blank, marked, Delivers, Goes, Puts, Piece, plain, over, unspelled, sized, field, text, ArePlain, lengthened, Written, writes, then_writes}
+use Rattle.layout.specs.Pieces.{has_over, has_unspelled, too_large, cannot, blank, Delivers, Goes, Puts, Piece, plain, over, unspelled, sized, field, text, ArePlain, lengthened, Written, writes, then_writes}
 
 -- ---- pieces one behind the other
 
@@ -688,173 +687,6 @@ puts_number v old new (Ok x) lt m = let t = number_put 2 v lt in (t.0, m ∙ ap 
 puts_number v old new (Err e) lt m =
     (subst (λ (d : WriteFault). UnlessWriteMemory d (cannot (field 2 v) ≡ Some d)) (sym m.0) tt, m.1)
 
--- ---- bodies that are read by field
-
-pub inside_spells : {A V : Type 0} (n : ℕ) (body : List ℕ) (f : Format A) (make : A → V) (bytes : List ℕ) (w : V)
-    → Spells (inside n body f (λ v. done (make v))) bytes w
-    → (v : A) × Spells f body v × (bytes ≡ []) × (make v ≡ w)
-inside_spells {A = A} {V = V} n body (done v) make bytes w s = by_test (eqb (length body) 0) refl s
-  where
-    by_test : (b : Bool) → eqb (length body) 0 ≡ b
-        → Spells (cond b (done (make v)) (refuse (λ at. AttributeLength (at - n - 6)))) bytes w → (u : A)
-        × Spells (done v) body u × (bytes ≡ []) × (make u ≡ w)
-    by_test true e s = (v, (nil_from_length body (eqb-true _ _ e), refl), s.0, s.1)
-    by_test false e s = absurd s
-inside_spells {A = A} {V = V} n body (part k after) make bytes w s =
-    by_test (ltb (length body) k) refl s (λ t. inside_spells n (drop k body) (after (take k body)) make bytes w t)
-  where
-    by_test : (b : Bool) → ltb (length body) k ≡ b
-        → Spells (cond b (refuse (λ at. AttributeLength (at - n - 6)))
-        (inside n (drop k body) (after (take k body)) (λ v. done (make v)))) bytes w
-        → (Spells (inside n (drop k body) (after (take k body)) (λ v. done (make v))) bytes w → (v : A)
-        × Spells (after (take k body)) (drop k body) v × (bytes ≡ []) × (make v ≡ w))
-        → (u : A) × Spells (part k after) body u × (bytes ≡ []) × (make u ≡ w)
-    by_test true e s again = absurd s
-    by_test false e s again =
-        let r = again s in
-        let long : k ≤ length body = ltb-false _ _ e in (
-          r.0,
-          (take k body, drop k body, omega (arith, length-take k body), sym (take-append-drop k body), r.1),
-          r.2,
-          r.3,
-        )
-inside_spells n body (refuse fault) make bytes w s = absurd s
-
-pub spells_inside : {A V : Type 0} (n : ℕ) (body : List ℕ) (f : Format A) (make : A → V) (v : A) → Spells f body v
-    → Spells (inside n body f (λ v. done (make v))) [] (make v)
-spells_inside {V = V} n body (done u) make v s =
-    let none : eqb (length body) 0 ≡ true = eq-eqb _ _ (ap length s.0) in
-    subst (λ (t : Bool). Spells (cond t (done (make u)) (refuse (λ at. AttributeLength (at - n - 6)))) [] (make v))
-    (sym none) (refl, ap make s.1)
-spells_inside {V = V} n body (part k after) make v s =
-    let first = s.0 in
-    let others = s.1 in
-    let whole : body ≡ first ++ others = s.3 in
-    let long : ltb (length body) k ≡ false =
-    le-ltb _ _ (omega (arith, ap length whole, length-append first others, s.2)) in
-    let front : take k body ≡ first = ap (take k) whole ∙ take_at first others k s.2 in
-    let back : drop k body ≡ others = ap (drop k) whole ∙ drop_at first others k s.2 in
-    let inner = spells_inside n others (after first) make v s.4 in
-    let one : Spells (inside n (drop k body) (after (take k body)) (λ v. done (make v))) [] (make v) =
-    subst (λ (t : List ℕ). Spells (inside n t (after (take k body)) (λ v. done (make v))) [] (make v)) (sym back)
-    (subst (λ (t : List ℕ). Spells (inside n others (after t) (λ v. done (make v))) [] (make v)) (sym front) inner) in
-    subst (λ (t : Bool). Spells (cond t (refuse (λ at. AttributeLength (at - n - 6)))
-    (inside n (drop k body) (after (take k body)) (λ v. done (make v)))) [] (make v)) (sym long) one
-spells_inside n body (refuse fault) make v s = absurd s
-
--- bytes behind a length of four bytes
-pub made_held : {V : Type 0} (make : List ℕ → V) → NumberLaw 4
-    → Made (andthen (number 4) (λ n. part n (λ bytes. done (make bytes)))) make (λ bytes. lengthened (plain bytes ∷ []))
-made_held {V = V} make law4 = record { has = has; only = only }
-  where
-    held : ℕ → Format V
-    held n = part n (λ bytes. done (make bytes))
-
-    has : (bytes : List ℕ) → ArePlain (lengthened (plain bytes ∷ []))
-        → Spells (andthen (number 4) held) (text (lengthened (plain bytes ∷ []))) (make bytes)
-    has bytes h =
-        let n = length (bytes ++ []) in
-        let p = plain_parts (field 4 n) (plain bytes ∷ []) h in
-        let same : bytes ++ [] ≡ bytes = append-nil bytes in
-        let body : Spells (held n) (bytes ++ []) (make bytes) =
-        (bytes ++ [], [], refl, sym (append-nil (bytes ++ [])), (refl, ap make same)) in
-        subst (λ (t : List ℕ). Spells (andthen (number 4) held) t (make bytes))
-        (sym (text_append (field 4 n) (plain bytes ∷ [])))
-        (andthen_spelled (number 4) held (text (field 4 n)) (bytes ++ []) n (make bytes)
-        ((made_number 4 law4).has n p.0) body)
-
-    only : (v : V) (bytes : List ℕ) → AreBytes bytes → Spells (andthen (number 4) held) bytes v → (b : List ℕ)
-        × (make b ≡ v) × (bytes ≡ text (lengthened (plain b ∷ []))) × ArePlain (lengthened (plain b ∷ []))
-    only v bytes fit s =
-        let i = andthen_parts (number 4) held bytes v s in
-        let bs = AreBytes-parts i.0 i.1 (subst AreBytes i.3 fit) in
-        let x = (made_number 4 law4).only i.2 i.0 bs.0 i.4 in
-        let t = i.5 in
-        let b = t.0 in
-        let n : x.0 ≡ length (b ++ []) = x.1 ∙ sym t.2 ∙ sym (ap length (append-nil b)) in
-        let rest : i.1 ≡ b ++ [] = t.3 ∙ ap (λ (r : List ℕ). b ++ r) t.4.0 in (
-          b,
-          t.4.1,
-          i.3 ∙ ap (λ (r : List ℕ). r ++ i.1) (x.2 ∙ ap (λ (k : ℕ). text (field 4 k)) n)
-              ∙ ap (λ (r : List ℕ). text (field 4 (length (b ++ []))) ++ r) rest
-              ∙ sym (text_append (field 4 (length (b ++ []))) (plain b ∷ [])),
-          plain_append (field 4 (length (b ++ []))) (plain b ∷ []) (subst (λ (k : ℕ). ArePlain (field 4 k)) n x.3) tt,
-        )
-
--- An attribute that is read by field where the test holds for its name index, and is raw elsewhere.
-pub data Either (A : Type 0) : Type 0 where
-  fields : (name : ℕ) (value : A) → Either A
-  raw : (name : ℕ) (body : List ℕ) → Either A
-
-abbrev pub name_of : {A : Type 0} → Either A → ℕ
-name_of (fields name value) = name
-name_of (raw name body) = name
-
-abbrev pub body_pieces : {A : Type 0} → (ℕ → Bool) → (A → List Piece) → Either A → List Piece
-body_pieces test p (fields name value) = marked (test name) (p value)
-body_pieces test p (raw name body) = marked (not (test name)) (plain body ∷ [])
-
-abbrev pub pick : {A : Type 0} → (ℕ → Bool) → Format A → ℕ → ℕ → List ℕ → Format (Either A)
-pick test f name n body = cond (test name) (inside n body f (λ v. done (fields name v))) (done (raw name body))
-
-pub bodies : {A : Type 0} (test : ℕ → Bool) {f : Format A} {p : A → List Piece} → Writes f p
-    → Bodies (pick test f) name_of (λ x. x) (body_pieces test p)
-bodies {A = A} test {f = f} {p = p} m =
-    record { has = has; only = λ name body bytes v fit s. only name body bytes v (test name) refl fit s }
-  where
-    by_field : (name : ℕ) (value : A) (b : Bool) → ArePlain (marked b (p value)) → (b ≡ true)
-        × (text (marked b (p value)) ≡ text (p value)) × ArePlain (p value)
-    by_field name value true h = (refl, refl, h)
-    by_field name value false h = absurd h
-
-    by_raw : (body : List ℕ) (b : Bool) → ArePlain (marked (not b) (plain body ∷ [])) → (b ≡ false)
-        × (text (marked (not b) (plain body ∷ [])) ≡ body)
-    by_raw body true h = absurd h
-    by_raw body false h = (refl, append-nil body)
-
-    has : (x : Either A) → ArePlain (body_pieces test p x)
-        → Spells (pick test f (name_of x) (length (text (body_pieces test p x))) (text (body_pieces test p x))) [] x
-    has (fields name value) h =
-        let t = text (marked (test name) (p value)) in
-        let r = by_field name value (test name) h in
-        let s : Spells f t value = subst (λ (b : List ℕ). Spells f b value) (sym r.1) (m.has value r.2) in
-        subst (λ (b : Bool). Spells (cond b (inside (length t) t f (λ v. done (fields name v))) (done (raw name t))) []
-        (fields name value)) (sym r.0)
-        (spells_inside (length t) t f (λ v. fields name v) value s)
-    has (raw name body) h =
-        let t = text (marked (not (test name)) (plain body ∷ [])) in
-        let r = by_raw body (test name) h in
-        subst (λ (b : Bool). Spells (cond b (inside (length t) t f (λ v. done (fields name v))) (done (raw name t))) []
-        (raw name body)) (sym r.0) (refl, ap (λ (b : List ℕ). raw name b) r.1)
-
-    only : (name : ℕ) (body bytes : List ℕ) (v : Either A) (b : Bool) → test name ≡ b → AreBytes body
-        → Spells (cond b (inside (length body) body f (λ v. done (fields name v))) (done (raw name body))) bytes v
-        → (bytes ≡ []) × (x : Either A) × (x ≡ v) × (name_of x ≡ name) × (body ≡ text (body_pieces test p x))
-        × ArePlain (body_pieces test p x)
-    only name body bytes v true e fit s =
-        let i = inside_spells (length body) body f (λ v. fields name v) bytes v s in
-        let x = m.only i.0 body fit i.1 in
-        let same : p i.0 ≡ marked (test name) (p i.0) = ap (λ (b : Bool). marked b (p i.0)) (sym e) in (
-          i.2,
-          fields name i.0,
-          i.3,
-          refl,
-          x.2 ∙ ap (λ (w : A). text (p w)) x.1 ∙ ap text same,
-          subst ArePlain same (subst (λ (w : A). ArePlain (p w)) x.1 x.3),
-        )
-    only name body bytes v false e fit s =
-        let same : plain body ∷ [] ≡ marked (not (test name)) (plain body ∷ []) =
-        ap (λ (b : Bool). marked (not b) (plain body ∷ [])) (sym e) in
-        (s.0, raw name body, s.1, refl, sym (append-nil body) ∙ ap text same, subst ArePlain same tt)
-
--- an attribute is written as its name index, and its body behind a length
-abbrev pub attribute_pieces : {A : Type 0} → (ℕ → Bool) → (A → List Piece) → Either A → List Piece
-attribute_pieces test p x = field 2 (name_of x) ++ lengthened (body_pieces test p x)
-
-pub writes_attribute : {A : Type 0} (test : ℕ → Bool) {f : Format A} {p : A → List Piece} → NumberLaw 2 → NumberLaw 4
-    → Writes f p → Writes (headed (pick test f)) (attribute_pieces test p)
-writes_attribute test law2 law4 m = made_headed law2 law4 (bodies test m)
-
 -- a value that is made of one part
 pub made_last : {A U V : Type 0} {f : Format U} (mk : U → V) {first : A → U} {p : A → List Piece} → Made f first p
     → Made (andthen f (λ u. done (mk u))) (λ a. mk (first a)) p
@@ -867,47 +699,6 @@ made_last {V = V} {f = f} mk {first = first} {p = p} m = record {
       let x = m.only i.2 i.0 bs.0 i.4 in
       (x.0, ap mk x.1 ∙ i.5.1, i.3 ∙ ap (λ (t : List ℕ). i.0 ++ t) i.5.0 ∙ append-nil i.0 ∙ x.2, x.3);
 }
-
--- ---- an attribute, as a program writes it
-
-pub still : (p : List Piece) (w a b : Written) (mark : ℕ) → Begun w a mark → writes p a ≡ Ok b
-    → mark + 4 ≤ length b.bytes
-still p w a b mark begun body =
-    let moved = writes_behind p a.bytes [] a.room a.wrong b body in
-    omega (
-      arith,
-      ap length moved.0,
-      length-append a.bytes (text p),
-      ap length begun.bytes_are,
-      length-append w.bytes (0 ∷ 0 ∷ 0 ∷ 0 ∷ []),
-      begun.mark_is,
-    )
-
-named : (name : ℕ) (p : List Piece) (s w : Written) → writes (field 2 name) s ≡ Ok w
-    → writes (field 2 name ++ lengthened p) s ≡ writes (lengthened p) w
-named name p s w h = writes_append (field 2 name) (lengthened p) s
-    ∙ ap (λ (r : Result Written WriteFault). then_writes r (lengthened p)) h
-
-pub goes_end : (name : ℕ) (p : List Piece) (s w a b c : Written) (mark : ℕ) (r : Result (Unit {0}) WriteFault)
-    → writes (field 2 name) s ≡ Ok w → Begun w a mark → writes p a ≡ Ok b
-    → MatchResult r (λ _. Ended mark b c) (λ e. (e ≡ DoesNotFit) × (256 ^ 4 ≤ length b.bytes - mark - 4))
-    → Goes (field 2 name ++ lengthened p) s c r
-goes_end name p s w a b c mark (Ok x) h begun body m = named name p s w h ∙ lengthened_ok p w a b c mark begun body m
-goes_end name p s w a b c mark (Err e) h begun body m =
-    subst (λ (d : WriteFault). UnlessWriteMemory d (writes (field 2 name ++ lengthened p) s ≡ Err d)) (sym m.0)
-    (named name p s w h ∙ lengthened_over p w a b mark begun body m.1)
-
-pub goes_body : (name : ℕ) (p : List Piece) (s w a : Written) (mark : ℕ) (e : WriteFault)
-    → writes (field 2 name) s ≡ Ok w → Begun w a mark → writes p a ≡ Err e
-    → writes (field 2 name ++ lengthened p) s ≡ Err e
-goes_body name p s w a mark e h begun body =
-    let r = lengthened_err p w a mark e begun body in
-    named name p s w h ∙ subst (λ (d : WriteFault). writes (lengthened p) w ≡ Err d) (sym r.0) r.1
-
-pub goes_begin : (name : ℕ) (p : List Piece) (s w : Written) (e : WriteFault) → writes (field 2 name) s ≡ Ok w
-    → (e ≡ DoesNotFit) × (w.room < 4) → writes (field 2 name ++ lengthened p) s ≡ Err e
-goes_begin name p s w e h k =
-    named name p s w h ∙ subst (λ (d : WriteFault). writes (lengthened p) w ≡ Err d) (sym k.0) (lengthened_none p w k.1)
 
 -- ---- a list, as a program writes it, one behind the other
 

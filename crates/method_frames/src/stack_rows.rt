@@ -306,6 +306,9 @@ impl<'t, 'c, 'n, C: Classes> StackRows<'t, 'c, 'n, C> {
         if height.depth != self.items.count() {
             return Ok(Answer::No);
         }
+        if height.depth == 0 {
+            return Ok(Answer::Yes);
+        }
         if height.wides != self.items.wides() {
             return Ok(Answer::No);
         }

@@ -7,7 +7,8 @@ use Rattle.layout.specs.declared.fault.ReadFault.TheVariants.{AttributeLength, B
 use Rattle.layout.specs.Format.{AreBytes, Format, done, refuse, Spells, andthen, number, inside}
 use Rattle.layout.specs.FormatLaws.{AreBytes-parts, andthen_spelled, andthen_parts, number_2, number_4}
 use Rattle.layout.specs.Pieces.{Piece, plain, field, text, ArePlain, lengthened, marked}
-use Rattle.layout.specs.PieceLaws.{Made, Writes, Bodies, not, inside_spells, spells_inside, made_headed, made_then, made_last, made_number, made_counted, made_held, made_whole, counted, text_append, plain_parts, plain_append}
+use Rattle.layout.specs.PieceLaws.{Made, Writes, Bodies, not, made_headed, made_then, made_last, made_number, made_counted, made_whole, counted, text_append, plain_parts, plain_append}
+use Rattle.layout.specs.AttributeLaws.{inside_spells, spells_inside, made_held}
 use Rattle.pool.specs.Entries.{Entry, pool_pieces}
 use Rattle.pool.specs.EntryLaws.{writes_pool}
 use Rattle.classfile.specs.declared.location.Location.{Location}

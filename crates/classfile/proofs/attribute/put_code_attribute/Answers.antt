@@ -3,7 +3,8 @@ use Rattle.std.proofs.lemmas.Result.{err_from_is_err_and}
 use Rattle.layout.specs.declared.fault.WriteFault.{WriteFault}
 use Rattle.layout.specs.Pieces.{Written, field, marked, lengthened, then_writes}
 use Rattle.layout.specs.Faults.{UnlessWriteMemory-map}
-use Rattle.layout.specs.PieceLaws.{still, goes_end, goes_body, goes_begin, writes_append}
+use Rattle.layout.specs.PieceLaws.{writes_append}
+use Rattle.layout.specs.AttributeLaws.{still, goes_end, goes_body, goes_begin}
 use Rattle.classfile.specs.private.Pieces.{code_pieces}
 use Rattle.classfile.specs.Views.{code_view}
 use Rattle.classfile.proofs.attribute.put_code_attribute.Goals as goal

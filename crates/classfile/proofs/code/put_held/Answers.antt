@@ -5,7 +5,8 @@ use Rattle.std.proofs.lemmas.Result.{err_from_is_err_and}
 use Rattle.layout.specs.declared.fault.WriteFault.{WriteFault}
 use Rattle.layout.specs.Pieces.{Piece, Written, Goes, plain, lengthened, writes}
 use Rattle.layout.specs.Faults.{UnlessWriteMemory, UnlessWriteMemory-map}
-use Rattle.layout.specs.PieceLaws.{Begun, Ended, still, lengthened_ok, lengthened_over, lengthened_err, lengthened_none}
+use Rattle.layout.specs.PieceLaws.{Begun, Ended, lengthened_ok, lengthened_over, lengthened_err, lengthened_none}
+use Rattle.layout.specs.AttributeLaws.{still}
 use Rattle.classfile.proofs.code.put_held.Goals as goal
 
 pub end-requires : goal.end-requires

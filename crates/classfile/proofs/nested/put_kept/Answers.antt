@@ -3,7 +3,8 @@ use Rattle.std.proofs.lemmas.Result.{err_from_is_err_and}
 use Rattle.layout.specs.declared.fault.WriteFault.{WriteFault}
 use Rattle.layout.specs.Pieces.{plain, Written, field, marked, lengthened, then_writes}
 use Rattle.layout.specs.Faults.{UnlessWriteMemory-map}
-use Rattle.layout.specs.PieceLaws.{still, goes_end, goes_body, goes_begin, writes_append}
+use Rattle.layout.specs.PieceLaws.{writes_append}
+use Rattle.layout.specs.AttributeLaws.{still, goes_end, goes_body, goes_begin}
 use Rattle.classfile.proofs.nested.put_kept.Goals as goal
 
 pub end-requires : goal.end-requires

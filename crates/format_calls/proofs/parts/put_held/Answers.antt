@@ -1,6 +1,6 @@
 use Rattle.std.proofs.Common.{[], ◌∷◌}
 use Rattle.layout.specs.Pieces.{plain}
-use Rattle.layout.specs.PieceLaws.{still}
+use Rattle.layout.specs.AttributeLaws.{still}
 use Rattle.format_calls.proofs.parts.put_held.Goals as goal
 
 pub end-requires : goal.end-requires

@@ -1,5 +1,5 @@
 use Rattle.layout.specs.FormatLaws.{reads_inside}
-use Rattle.layout.specs.PieceLaws.{inside_spells, spells_inside}
+use Rattle.layout.specs.AttributeLaws.{inside_spells, spells_inside}
 use Rattle.layout.proofs.laws.body_is_whole.Goals as goal
 
 pub returns-clause-spelled : goal.returns-clause-spelled
