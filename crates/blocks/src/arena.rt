@@ -220,8 +220,8 @@ impl Arena {
         first_undecided_below(&self.nodes, self.root, wanted, from, self.count)
     }
 
-    /// Keeps the running row as it is, in place of what was kept before. Takes no memory, but the running row shares all
-    /// of its blocks afterwards.
+    /// Keeps the running row as it is, in place of what was kept before. Takes no memory, but the running row shares
+    /// all of its blocks afterwards.
     pub fn keep(&mut self)
         ensures { self.new ≡ record self.old { kept = self.old.running } }
     {

@@ -1,4 +1,5 @@
--- Attributes by their pieces: bodies that are read by field, and how a program writes one. Words of the code's own steps.
+-- Attributes by their pieces: bodies that are read by field, and how a program writes one. Words of the code's own
+-- steps.
 use Rattle.std.proofs.Common.{◌≡◌, ℕ, ◌+◌, ◌-◌, ◌^◌, ◌<◌, ◌≤◌, Bool, true, false, cond, ltb, eqb, List, [], ◌∷◌, ◌++◌, length, take, drop, Result, Ok, Err, refl, sym, ap, subst, ◌∙◌, arith}
 use Rattle.std.specs.Prelude.{MatchResult}
 use Rattle.std.proofs.lemmas.Bool.{eqb-true, eq-eqb, ltb-false, le-ltb}

@@ -364,9 +364,9 @@ fn declare_all<St: Starts, C: Classes>(
     Ok(Ok(()))
 }
 
-/// Declares the frames of a method's stack map, by rising offsets (JVMS 4.7.4), and makes the running frame the one with
-/// which the method begins; or tells the first entry that is refused, with its fault of the least number: 8, 9 or 49 to
-/// 53. The only other refusal is 1, where memory runs out.
+/// Declares the frames of a method's stack map, by rising offsets (JVMS 4.7.4), and makes the running frame the one
+/// with which the method begins; or tells the first entry that is refused, with its fault of the least number: 8, 9 or
+/// 49 to 53. The only other refusal is 1, where memory runs out.
 ///
 /// `initial` has the types of the receiver and of the parameters, a long or double being one of them. No frame is
 /// declared yet, and all locals of the running frame are top.

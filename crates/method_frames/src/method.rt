@@ -121,8 +121,8 @@ impl<'t, 'c, 'n, C: Classes> MethodFrames<'t, 'c, 'n, C> {
         })
     }
 
-    /// Begins anew, for another method of the same class: as [`new`](MethodFrames::new) says it, in the memory that there
-    /// is, and in time for what was used of it.
+    /// Begins anew, for another method of the same class: as [`new`](MethodFrames::new) says it, in the memory that
+    /// there is, and in time for what was used of it.
     pub fn restart(&mut self, max_locals: u16, max_stack: u16, flag: bool)
         ensures { self.new ≡ record {
           types = self.old.types;
@@ -290,8 +290,8 @@ impl<'t, 'c, 'n, C: Classes> MethodFrames<'t, 'c, 'n, C> {
         self.locals.replace(made_object(at), 0)
     }
 
-    /// Makes an object that was not initialized one of a class, by the number of that, wherever it stands in the running
-    /// frame; the own object is uninitialized no more (JVMS 4.10.1.9, invokespecial).
+    /// Makes an object that was not initialized one of a class, by the number of that, wherever it stands in the
+    /// running frame; the own object is uninitialized no more (JVMS 4.10.1.9, invokespecial).
     pub fn initialize(&mut self, object: u32, class: u32) -> Result<(), AllocError>
         requires object { is_object object ≡ true }
         requires class { IsClassNumber self.old.types class }
@@ -409,9 +409,9 @@ impl<'t, 'c, 'n, C: Classes> MethodFrames<'t, 'c, 'n, C> {
         Ok(both(locals, stack))
     }
 
-    /// Whether the running frame with a type alone on its stack, in place of all items, may stand where a declared one is
-    /// wanted: so an exception of this type is caught by the handler of which that is the frame (JVMS 4.10.1.6). Takes no
-    /// memory.
+    /// Whether the running frame with a type alone on its stack, in place of all items, may stand where a declared one
+    /// is wanted: so an exception of this type is caught by the handler of which that is the frame (JVMS 4.10.1.6).
+    /// Takes no memory.
     pub fn answer_caught(&mut self, frame: usize, caught: u32) -> Answer<'n>
         requires frame { frame < length self.old.declared }
         requires given { IsGiven self.old.types caught }
@@ -440,7 +440,8 @@ impl<'t, 'c, 'n, C: Classes> MethodFrames<'t, 'c, 'n, C> {
         self.locals.keep();
     }
 
-    /// The first local variable from one on whose type is not the one that was kept. Takes no time where nothing changed.
+    /// The first local variable from one on whose type is not the one that was kept. Takes no time where nothing
+    /// changed.
     pub fn first_changed(&self, from: usize) -> Option<usize>
         ensures first { IsFirstUnequal self.now.running.locals self.now.kept from result }
         ensures even { length self.now.kept ≡ length self.now.running.locals }
@@ -474,8 +475,8 @@ impl<'t, 'c, 'n, C: Classes> MethodFrames<'t, 'c, 'n, C> {
         self.types().assignable(number, wanted)
     }
 
-    /// Whether a type may stand for a local variable of a declared frame; each may where there is no such local. Takes no
-    /// memory.
+    /// Whether a type may stand for a local variable of a declared frame; each may where there is no such local. Takes
+    /// no memory.
     pub fn takes(&self, frame: usize, place: usize, number: u32) -> bool
         requires frame { frame < length self.now.declared }
         requires given { IsGiven self.now.types number }

@@ -296,9 +296,9 @@ impl<'t, 'c, 'n, C: Classes> TypeRows<'t, 'c, 'n, C> {
         }
     }
 
-    /// From which place on a declared row is to be compared; the answer for the places in front of it; and, if that is a
-    /// missing class, how many first places give it. In front of it are the places that the row has in common with the
-    /// one for which a class is missing, if they give the answer of that one, and else none.
+    /// From which place on a declared row is to be compared; the answer for the places in front of it; and, if that is
+    /// a missing class, how many first places give it. In front of it are the places that the row has in common with
+    /// the one for which a class is missing, if they give the answer of that one, and else none.
     fn start(&self, row: Row) -> (usize, Answer<'n>, usize)
         requires row { row < length self.now.declared }
         ensures within { result.0 ≤ length self.now.running }

@@ -87,8 +87,8 @@ fn loads_computed<'n, C: Classes>(
     }
 }
 
-/// `ldc`, `ldc_w` and `ldc2_w`: loads a constant, which takes two units where `wide` says so. Its refusals are 60, 66 and
-/// 90, and those of [`gives`].
+/// `ldc`, `ldc_w` and `ldc2_w`: loads a constant, which takes two units where `wide` says so. Its refusals are 60, 66
+/// and 90, and those of [`gives`].
 pub fn loads_constant<'n, C: Classes>(
     method: &CodeMethod<'_, '_>,
     wide: bool,

@@ -36,8 +36,8 @@ fn makes<'n, C: Classes>(
     give(method, Answer::Yes, made_object(at), frames)
 }
 
-/// `new` at an offset. Its refusals are 66 where it names no class, 62 where the object that was made there before is on
-/// the stack, 65, and 1 where memory runs out.
+/// `new` at an offset. Its refusals are 66 where it names no class, 62 where the object that was made there before is
+/// on the stack, 65, and 1 where memory runs out.
 pub fn new_object<'n, C: Classes>(
     method: &CodeMethod<'_, '_>,
     at: u16,

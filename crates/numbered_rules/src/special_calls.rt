@@ -90,9 +90,9 @@ fn call_special<'n, C: Classes>(
     }
 }
 
-/// `invokespecial`. Its refusals are 66 where it may not name the method, or the current class is not assignable to that
-/// of a method that is not a constructor; 61 and 62 where the arguments or the object beneath them are not those of its
-/// rule; 65, 77, and 1 where memory runs out.
+/// `invokespecial`. Its refusals are 66 where it may not name the method, or the current class is not assignable to
+/// that of a method that is not a constructor; 61 and 62 where the arguments or the object beneath them are not those
+/// of its rule; 65, 77, and 1 where memory runs out.
 pub fn invoke_special<'n, C: Classes>(
     body: &Body<'_, '_>,
     index: u16,

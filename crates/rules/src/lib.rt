@@ -1,13 +1,14 @@
-//! The rules by which an instruction is verified (JVMS 4.10.1.9): which conditions refuse it, in specs/Rules.antt, and the
-//! frame after it, in specs/After.antt; and what both rest on: the constants of a class, the ways of an instruction, and
-//! the expected types of all that it takes. The crate `numbered_rules` runs instructions by these rules.
+//! The rules by which an instruction is verified (JVMS 4.10.1.9): which conditions refuse it, in specs/Rules.antt, and
+//! the frame after it, in specs/After.antt; and what both rest on: the constants of a class, the ways of an
+//! instruction, and the expected types of all that it takes. The crate `numbered_rules` runs instructions by these
+//! rules.
 //!
 //! - `reason`: why an instruction is refused; `merging`: the reasons of two judgements taken together.
 //! - `ways`: where an instruction goes, and whether it is plain.
 //! - `expected_types`: the expected types of all that an instruction takes; `expected`: those of operands; `results`:
 //!   the results of methods; `stacks`: how many units an instruction takes that moves items of the stack.
-//! - `unmet_expectations`: the first expected type that a frame does not meet, and the first of which that is not known;
-//!   `operands`: whether a type meets one; `constructing`: on which objects a constructor may be called.
+//! - `unmet_expectations`: the first expected type that a frame does not meet, and the first of which that is not
+//!   known; `operands`: whether a type meets one; `constructing`: on which objects a constructor may be called.
 //! - `calls`: which methods instructions may call.
 //!
 //! The constants that instructions name:

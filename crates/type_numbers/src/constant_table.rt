@@ -48,8 +48,8 @@ impl ConstantTable {
     }
 
     /// The numbers of the types that the text at an index of the table's pool names as the descriptor of a method; none
-    /// where no text is there, or it is no such descriptor. A text to which a constant leads is not read again. The only
-    /// refusal is 1, where memory runs out.
+    /// where no text is there, or it is no such descriptor. A text to which a constant leads is not read again. The
+    /// only refusal is 1, where memory runs out.
     pub fn method_types<'a, C: Classes>(
         &mut self,
         pool: &Pool<'a>,

@@ -104,7 +104,8 @@ fn target_ways<C: Classes>(
     Ok(ways)
 }
 
-/// The way to the handler of an entry, if it covers the instruction at an offset and a frame is declared at its handler.
+/// The way to the handler of an entry, if it covers the instruction at an offset and a frame is declared at its
+/// handler.
 fn handler_way<C: Classes>(
     at: u16,
     entry: &Entry,

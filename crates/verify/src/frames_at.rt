@@ -251,8 +251,8 @@ fn meet<'a, C: Classes>(
     Ok(met)
 }
 
-/// The frames at the offset at which code is refused, by one walk over it with the running frame, the one with which the
-/// method begins.
+/// The frames at the offset at which code is refused, by one walk over it with the running frame, the one with which
+/// the method begins.
 fn walk<'a, C: Classes>(
     alloc: Global,
     body: &Body<'_, 'a>,
@@ -337,8 +337,8 @@ fn without_code<'a>(fault: CodeFault) -> Result<FramesAt<'a>, VerifyFault>
 
 /// The frames at the offset at which a method with code is refused (JVMS 4.10.1.6), and what is wrong; none where its
 /// bytes are no instructions, where its receiver and its parameters do not fit into max_locals, or where no instruction
-/// begins at the offset. Where its stack map is refused, there are no frames, and what is wrong is in the map. The types
-/// and the constants are those of its class.
+/// begins at the offset. Where its stack map is refused, there are no frames, and what is wrong is in the map. The
+/// types and the constants are those of its class.
 pub fn frames_of<'a, C: Classes>(
     alloc: Global,
     method: CodeMethod<'_, 'a>,

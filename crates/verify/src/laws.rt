@@ -66,9 +66,9 @@ pub fn frames_are_judged()
     ensures { FramesAreJudged }
 {}
 
-/// Where a method is refused by 61 to 63, 68, 69, 72, 73 or 75, it is told what is wrong, for 62 with two exceptions: an
-/// instruction that moves items of the stack, of which those on top are of none of its forms, and a `new` whose object
-/// of an earlier pass is still on the stack.
+/// Where a method is refused by 61 to 63, 68, 69, 72, 73 or 75, it is told what is wrong, for 62 with two exceptions:
+/// an instruction that moves items of the stack, of which those on top are of none of its forms, and a `new` whose
+/// object of an earlier pass is still on the stack.
 pub fn details_are_told()
     ensures { DetailsAreTold }
 {}

@@ -12,21 +12,21 @@
 //!   frames, by one walk once more over the code; `detail`: what is wrong there, by the reason; `difference_at`: how a
 //!   frame that leads to a target or a handler differs from the one that is declared there; `exceptions`: the entry of
 //!   the exception table that is at fault; `stack_maps`: the entry of the stack map for which it is refused.
-//! - `applying`: one instruction, judged by its rule on a copy of a frame; `environment`: the method, its instructions, and
-//!   the classes around it.
+//! - `applying`: one instruction, judged by its rule on a copy of a frame; `environment`: the method, its instructions,
+//!   and the classes around it.
 //!
 //! Files:
 //!
 //! - `files`: from a file as it was read to a class that is well formed.
 //! - `known_classes`: a class among its known classes; `classes_in_play`: classes in play.
-//! - `judgements`: the classes of many files, each judged among all; `gathering`: the classes in files, the first of each
-//!   name; `standing`: which of these stand.
+//! - `judgements`: the classes of many files, each judged among all; `gathering`: the classes in files, the first of
+//!   each name; `standing`: which of these stand.
 //!
 //! The pass over a method's code:
 //!
 //! - `pass`: one pass, against the verdict in specs/Verdict.antt, on frames whose types are numbers.
-//! - `flow`: reasons that an answer and the end of the code give; `initial`: whether a method begins with its own object
-//!   uninitialized.
+//! - `flow`: reasons that an answer and the end of the code give; `initial`: whether a method begins with its own
+//!   object uninitialized.
 //!
 //! Theorems:
 //!

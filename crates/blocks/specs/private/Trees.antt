@@ -113,7 +113,8 @@ IsFirstUndecidedBelow ns level id wanted from to (Some slot) = (from ≤ slot) �
 abbrev pub IsEqualBelow : List Node → ℕ → ℕ → ℕ → ℕ → Type 0
 IsEqualBelow ns level id other slot = number_at ns level id slot ≡ number_at ns level other slot
 
--- the numbers of all slots from one up to an end are equal, and the end is another unless they differ in the slot itself
+-- the numbers of all slots from one up to an end are equal, and the end is another unless they differ in the slot
+-- itself
 pub record IsEqualUpTo (ns : List Node) (level id other slot end : ℕ) : Type 0 where
   pub ahead : slot ≤ end
   pub within : end ≤ (slot / width level + 1) * width level

@@ -93,8 +93,8 @@ fn any_refuses<C: Classes>(
     false
 }
 
-/// The frame before an instruction comes to the handler of each entry that covers the instruction, up to the first one to
-/// whose handler it does not.
+/// The frame before an instruction comes to the handler of each entry that covers the instruction, up to the first one
+/// to whose handler it does not.
 fn check_in_turn<'n, C: Classes>(
     at: u16,
     table: &[Handler],
@@ -168,7 +168,8 @@ fn copied(alloc: Global, table: &[Handler]) -> Result<Vec<Handler>, AllocError>
 }
 
 /// The entries of an exception table. At an instruction, the frame is compared with the handlers of those that begin to
-/// cover it; with the others only by the local variables that changed, and once for all whose frames have the same locals.
+/// cover it; with the others only by the local variables that changed, and once for all whose frames have the same
+/// locals.
 #[derive(Drop)]
 pub struct Handlers {
     /// Where the pass takes memory.
@@ -196,7 +197,8 @@ impl Handlers {
             → IfOk result (Follows x es 0) }
     {
         let mut by_start = copied(alloc, &table)?;
-        // Ranges that begin at one offset are in the order of the frames at their handlers, which have more in common so.
+        // Ranges that begin at one offset are in the order of the frames at their handlers, which have more in common
+        // so.
         by_start.sort_by_key(|handler| handler.frame)?;
         by_start.sort_by_key(|handler| handler.from)?;
         Ok(Handlers {
@@ -333,8 +335,8 @@ impl Handlers {
         Ok(true)
     }
 
-    /// Whether the frame before an instruction comes to the handler of each entry that covers the instruction. It is kept
-    /// where it comes to those of the entries that were compared before.
+    /// Whether the frame before an instruction comes to the handler of each entry that covers the instruction. It is
+    /// kept where it comes to those of the entries that were compared before.
     fn settle<C: Classes>(
         &mut self,
         at: u16,

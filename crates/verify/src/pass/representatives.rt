@@ -48,8 +48,8 @@ fn shared_with<C: Classes>(
     }
 }
 
-/// Whether a frame takes a type as this local variable. It is not asked where it shares the variable with the frame before
-/// it, unless it is the first one.
+/// Whether a frame takes a type as this local variable. It is not asked where it shares the variable with the frame
+/// before it, unless it is the first one.
 fn takes_local<C: Classes>(
     first: bool,
     one: &Representative,
@@ -150,8 +150,8 @@ impl Representatives {
         if place < self.common { all.min(1) } else { all }
     }
 
-    /// Whether the frame of each takes a type as this local variable. One that shares the variable with the frame before it
-    /// is not asked.
+    /// Whether the frame of each takes a type as this local variable. One that shares the variable with the frame
+    /// before it is not asked.
     fn all_take<C: Classes>(
         &self,
         place: usize,
@@ -170,7 +170,8 @@ impl Representatives {
         true
     }
 
-    /// Whether each local variable of the running frame that is not as it was kept may stand for that of the frame of each.
+    /// Whether each local variable of the running frame that is not as it was kept may stand for that of the frame of
+    /// each.
     pub fn take_changes<C: Classes>(&self, frames: &MethodFrames<'_, '_, '_, C>) -> bool
         requires representatives { AreRepresentatives frames.now.declared self.now }
         ensures taken { let x = frames.now in IsTrue result → (f : ℕ) → 0 < slice_index self.now.until.items f
