@@ -4,7 +4,7 @@ ghost use Rattle.std.specs.List.{flat_map};
 ghost use Rattle.printing.specs.Writing.{Writes};
 ghost use Rattle.printing.specs.Json.{is_unescaped, character_text, string_text, enclosed, following, array_text};
 
-use crate::name::{digit, is_plain};
+use crate::name::{is_plain, put_escape};
 use crate::print::{Lines, Print, Then, Word, WriteFailed, put_bytes, put_lines};
 use crate::runs::{Escapes, put_units, run_in_front};
 use names::{Text, check_text, first_set};
@@ -26,17 +26,7 @@ fn put_character<W: Write>(out: &mut W, unit: u16) -> Result<(), WriteFailed>
     if is_unescaped(unit) {
         put_bytes(out, &[unit as u8])
     } else {
-        put_bytes(
-            out,
-            &[
-                b'\\',
-                b'u',
-                digit(unit / 4096),
-                digit(unit / 256 % 16),
-                digit(unit / 16 % 16),
-                digit(unit % 16),
-            ],
-        )
+        put_escape(out, unit)
     }
 }
 

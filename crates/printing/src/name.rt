@@ -1,5 +1,5 @@
 //! Flags, names, and texts of the constant pool.
-ghost use Rattle.std.specs.Prelude.{◌≡◌, ◌<◌};
+ghost use Rattle.std.specs.Prelude.{◌≡◌, ◌<◌, ◌∷◌};
 ghost use Rattle.printing.specs.Writing.{Writes};
 ghost use Rattle.printing.specs.Names.{digit, hexadecimal, is_plain, unit_text, name_text, constant_text, class_text};
 
@@ -52,23 +52,30 @@ pub(crate) fn is_plain(unit: u16) -> bool
     unit >= 32 && unit <= 126 && unit != 92
 }
 
+/// Writes `\u` and the four small hexadecimal digits of a unit.
+pub(crate) fn put_escape<W: Write>(out: &mut W, unit: u16) -> Result<(), WriteFailed>
+    ensures { Writes (W.contents out.old) (W.contents out.new) (92 ∷ 117 ∷ hexadecimal unit) result }
+{
+    put_bytes(
+        out,
+        &[
+            b'\\',
+            b'u',
+            digit(unit / 4096),
+            digit(unit / 256 % 16),
+            digit(unit / 16 % 16),
+            digit(unit % 16),
+        ],
+    )
+}
+
 fn put_unit<W: Write>(out: &mut W, unit: u16) -> Result<(), WriteFailed>
     ensures { Writes (W.contents out.old) (W.contents out.new) (unit_text unit) result }
 {
     if is_plain(unit) {
         put_bytes(out, &[unit as u8])
     } else {
-        put_bytes(
-            out,
-            &[
-                b'\\',
-                b'u',
-                digit(unit / 4096),
-                digit(unit / 256 % 16),
-                digit(unit / 16 % 16),
-                digit(unit % 16),
-            ],
-        )
+        put_escape(out, unit)
     }
 }
 
