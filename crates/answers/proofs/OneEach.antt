@@ -4,7 +4,7 @@ use Rattle.std.specs.Prelude.{codes, decimal}
 use Rattle.classfile.specs.Values.{Class}
 use Rattle.classfile.specs.CodeMethods.{judged}
 use Rattle.classfile.specs.Methods.{JudgedClass}
-use Rattle.classfile.specs.declared.form.Profile.{Profile}
+use Rattle.classfile.specs.declared.profile.Profile.{Profile}
 use Rattle.hierarchy.specs.Class.{ClassFact}
 use Rattle.hierarchy.specs.Faults.{FaultOf}
 use Rattle.hierarchy.specs.Rules.{IsHierarchy}

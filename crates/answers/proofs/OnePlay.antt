@@ -5,7 +5,7 @@ use Rattle.std.proofs.lemmas.Bool.{cases_order}
 use Rattle.std.proofs.lemmas.Option.{none-some}
 use Rattle.classfile.specs.Methods.{JudgedClass}
 use Rattle.classfile.specs.CodeMethods.{judged}
-use Rattle.classfile.specs.declared.form.Profile.{Profile}
+use Rattle.classfile.specs.declared.profile.Profile.{Profile}
 use Rattle.hierarchy.specs.Class.{ClassFact}
 use Rattle.verify.specs.Together.{facts_in}
 use Rattle.verify.specs.declared.verdict.Verdict.{Verdict}

@@ -8,7 +8,7 @@ use Rattle.pool.specs.Entries.{Entry}
 use Rattle.classfile.specs.Values.{CodeBody, Member, Class}
 use Rattle.classfile.specs.Methods.{JudgedClass, code_of}
 use Rattle.classfile.specs.CodeMethods.{judged}
-use Rattle.classfile.specs.declared.form.Profile.{Profile}
+use Rattle.classfile.specs.declared.profile.Profile.{Profile}
 use Rattle.hierarchy.specs.declared.fault.HierarchyFault.{HierarchyFault}
 use Rattle.hierarchy.specs.declared.fault.HierarchyFault.TheVariants.{OutOfMemory}
 use Rattle.hierarchy.specs.Class.{ClassFact}

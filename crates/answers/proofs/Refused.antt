@@ -3,7 +3,7 @@ use Rattle.std.proofs.Common.{◌≡◌, ℕ, ◌+◌, ◌-◌, ◌<◌, List, S
 use Rattle.std.specs.Prelude.{Vec}
 use Rattle.std.proofs.lemmas.List.{length-map}
 use Rattle.std.proofs.lemmas.Option.{slice_get-map, slice_get_within, slice_get-get_or}
-use Rattle.classfile.specs.declared.form.Profile.{Profile}
+use Rattle.classfile.specs.declared.profile.Profile.{Profile}
 use Rattle.classfile.specs.Values.{Class}
 use Rattle.classfile.specs.Laws.{OneClass}
 use Rattle.verify.specs.declared.known_classes.AmongFault.{AmongFault}

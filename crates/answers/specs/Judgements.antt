@@ -2,7 +2,7 @@
 -- another.
 use Rattle.std.specs.Prelude.{◌≡◌, ◌⊎◌, ℕ, ◌+◌, List, [], ◌∷◌, ◌++◌, codes, decimal, nat_lt, if◌then◌else◌}
 use Rattle.std.specs.List.{flat_map}
-use Rattle.classfile.specs.declared.form.Profile.{Profile}
+use Rattle.classfile.specs.declared.profile.Profile.{Profile}
 use Rattle.hierarchy.specs.declared.fault.HierarchyFault.{HierarchyFault}
 use Rattle.verify.specs.declared.judgements.Judgement.{Judgement}
 use Rattle.verify.specs.declared.judgements.Judgement.TheVariants.{Reported, Refused, NotInHierarchy, FinalSuper}

@@ -7,7 +7,7 @@ use Rattle.classfile.specs.Values.{CodeBody, Class}
 use Rattle.classfile.specs.Methods.{JudgedClass}
 use Rattle.classfile.specs.CodeMethods.{judged}
 use Rattle.classfile.specs.FileParts.{fault_part}
-use Rattle.classfile.specs.declared.form.Profile.{Profile}
+use Rattle.classfile.specs.declared.profile.Profile.{Profile}
 use Rattle.hierarchy.specs.declared.fault.HierarchyFault.{HierarchyFault}
 use Rattle.hierarchy.specs.declared.fault.HierarchyFault.TheVariants.{OutOfMemory, ClassTwice, Cycle, SuperMissing, NoObject, BadArrayInterface, TooManyClasses, InterfaceSuper}
 use Rattle.hierarchy.specs.Class.{ClassFact}

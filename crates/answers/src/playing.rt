@@ -1,6 +1,6 @@
 //! The command `play`: whether classes may run together.
 ghost use Rattle.std.specs.Prelude.{◌≡◌, List, map};
-ghost use Rattle.classfile.specs.declared.form.Profile.{Profile as ProfileFact};
+ghost use Rattle.classfile.specs.declared.profile.Profile.{Profile as ProfileFact};
 ghost use Rattle.verify.specs.Files.{Read};
 ghost use Rattle.verify.specs.Together.{NotTogether};
 ghost use Rattle.answers.specs.Files.{read_view};

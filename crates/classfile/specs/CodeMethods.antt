@@ -5,8 +5,8 @@ use Rattle.names.specs.Descriptors.{MethodDescriptor}
 use Rattle.names.specs.Types.{type_of}
 use Rattle.classfile.specs.declared.code_method.CodeMethod.{CodeMethod}
 use Rattle.classfile.specs.declared.form.Formed.{Formed}
-use Rattle.classfile.specs.declared.form.Profile.{Profile}
-use Rattle.classfile.specs.declared.form.Profile.TheVariants.{Default, Dynamic}
+use Rattle.classfile.specs.declared.profile.Profile.{Profile}
+use Rattle.classfile.specs.declared.profile.Profile.TheVariants.{Default, Dynamic}
 use Rattle.classfile.specs.Values.{Class}
 use Rattle.classfile.specs.Methods.{JudgedClass, Method, method_of}
 use Rattle.classfile.specs.MethodParts.{params_at, method_by_parts}

@@ -1,7 +1,6 @@
 //! Whether a class file is well formed (JVMS 4.1 to 4.7).
 ghost use Rattle.std.specs.Prelude.{◌≡◌, false, IfOk, IfErr, MatchResult};
 ghost use Rattle.classfile.specs.private.TextForms.{AreForms};
-ghost use Rattle.classfile.specs.CodeMethods.{judges_dynamic};
 ghost use Rattle.classfile.specs.Views.{class_view};
 ghost use Rattle.classfile.specs.WellFormed.{WellFormed, Passes, TellsFirst};
 ghost use Rattle.classfile.specs.declared.form_fault.FormFault.TheVariants.{OutOfMemory};
@@ -14,29 +13,9 @@ use crate::duplicate_finder::DuplicateFinder;
 use crate::flags::{INTERFACE, has};
 use crate::form_fault::{FormFault, Place};
 use crate::member_form::{field_rule, method_rule};
+use crate::profile::Profile;
 use crate::text_forms::TextForms;
 use std::alloc::Global;
-
-/// How the methods of a class are judged.
-#[derive(Clone, Copy, Debug, PartialEq, Eq)]
-pub enum Profile {
-    /// `invokedynamic` and dynamic constants are refused.
-    Default,
-    /// They are judged as well (JVMS 4.4.10, 4.10.1.9).
-    Dynamic,
-}
-
-impl Profile {
-    /// Whether `invokedynamic` and dynamic constants are judged.
-    pub fn judges_dynamic(self) -> bool
-        ensures { result ≡ judges_dynamic self }
-    {
-        match self {
-            Profile::Default => false,
-            Profile::Dynamic => true,
-        }
-    }
-}
 
 /// A class file that is well formed.
 #[derive(Clone, Copy)]

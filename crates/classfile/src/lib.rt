@@ -22,10 +22,11 @@
 //! | `layouts` | attributes of numbers of two bytes, and how their bodies are laid out: [`AttributeLayout`] |
 //! | `numbers` | [`Numbers`] of an attribute, row by row |
 //! | `table` | a count and so many items, for all tables of a class file |
-//! | `decoding`, `encoding` | the two calls |
+//! | `codec` | the two calls |
 //! | `outline`, `reading` | [`read_class`], and how far a class reaches in a stream |
 //! | `file_parts`, `skipping` | [`fault_part`], in which part of a file a fault of its bytes lies |
-//! | `form` | [`form_check`], [`Formed`], and the places one after the other; [`Profile`], how methods are judged |
+//! | `form` | [`form_check`], [`Formed`], and the places one after the other |
+//! | `profile` | [`Profile`], how the methods of a class are judged |
 //! | `form_fault` | [`FormRule`], [`Place`] and [`FormFault`] |
 //! | `constant_form`, `class_form`, `member_form`, `attribute_form` | which rule is broken at a place |
 //! | `number_form` | which rule is broken by an index in an attribute of numbers |
@@ -51,11 +52,10 @@ mod class_file;
 mod class_form;
 mod code;
 mod code_method;
+mod codec;
 mod component;
 mod constant_form;
-mod decoding;
 mod duplicate_finder;
-mod encoding;
 mod file_parts;
 pub mod flags;
 mod form;
@@ -73,6 +73,7 @@ mod number_form;
 mod numbers;
 mod outline;
 mod own_fields;
+mod profile;
 mod reading;
 mod record_form;
 mod repeated_attributes;
@@ -88,11 +89,10 @@ pub use class_attribute::ClassAttribute;
 pub use class_file::ClassFile;
 pub use code::{CodeAttr, ExceptionHandler};
 pub use code_method::CodeMethod;
+pub use codec::{decode, encode};
 pub use component::Component;
-pub use decoding::decode;
-pub use encoding::encode;
 pub use file_parts::{FilePart, fault_part};
-pub use form::{Formed, Profile, form_check};
+pub use form::{Formed, form_check};
 pub use form_fault::{FormFault, FormRule, Place};
 pub use laws::{
     body_spells_rows, class_is_outline, class_or_fault, formed_has_names, formed_or_faulty,
@@ -105,4 +105,5 @@ pub use member::Member;
 pub use nested::NestedAttribute;
 pub use numbers::Numbers;
 pub use own_fields::{OwnFields, declares_field};
+pub use profile::Profile;
 pub use reading::{CutShort, read_class};

@@ -6,8 +6,8 @@ use Rattle.clap.specs.declared.builder.action.ArgAction.TheVariants.{SetTrue, Ap
 use Rattle.clap.specs.declared.error.Error.{Error}
 use Rattle.clap.specs.declared.error.kind.ErrorKind.TheVariants as kind
 use Rattle.clap.specs.Words.{App, Row, Rule, Shape, Text, all_of, new_app, new_rule, with_rule, with_subcommand, subcommand_of, fault_of, Kinds, IsAmong, kind_of}
-use Rattle.classfile.specs.declared.form.Profile.{Profile}
-use Rattle.classfile.specs.declared.form.Profile.TheVariants.{Default, Dynamic}
+use Rattle.classfile.specs.declared.profile.Profile.{Profile}
+use Rattle.classfile.specs.declared.profile.Profile.TheVariants.{Default, Dynamic}
 use Rattle.answers.specs.declared.command.Command.{Command}
 use Rattle.answers.specs.declared.command.Command.TheVariants.{Check, Show, Verify, Explain, Play, VerifyEach}
 use Rattle.answers.specs.declared.command.Form.{Form}

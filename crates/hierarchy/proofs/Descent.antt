@@ -1,8 +1,9 @@
 -- The inheritance of one class more, and its consequences for the references of a class.
-use Rattle.std.proofs.Common.{◌≡◌, ◌⊎◌, inl, inr, ◌==◌, ◌&&◌, ℕ, zero, suc, Bool, true, false, not, cond, List, [], ◌∷◌, ◌++◌, find, length, slice_get, Option, Some, None, IsSome, refl, ap, sym, ◌∙◌, subst, arith}
+use Rattle.std.proofs.Common.{◌≡◌, ◌⊎◌, inl, inr, ◌==◌, ◌&&◌, ◌%◌, slice_set, ℕ, zero, suc, Bool, true, false, not, cond, List, [], ◌∷◌, ◌++◌, find, length, slice_get, Option, Some, None, IsSome, refl, ap, sym, ◌∙◌, subst, arith}
 use Rattle.std.specs.Option.{option_and_then}
 use Rattle.std.specs.Str.{bytes_eq}
 use Rattle.std.proofs.lemmas.Bool.{false≢true, eqb-true, eqb-false}
+use Rattle.std.proofs.lemmas.List.{length-set}
 use Rattle.std.proofs.lemmas.Slice.Eq.{bytes_eq-Decides}
 use Rattle.hierarchy.specs.declared.ancestry.Ancestry.{Ancestry}
 use Rattle.hierarchy.specs.declared.inheritance.Inherited.{Inherited}
@@ -13,7 +14,7 @@ use Rattle.hierarchy.specs.private.Ancestry.{IsAncestry, IsOwn, facts_at, place_
 use Rattle.hierarchy.specs.Answer.{on_chain}
 use Rattle.hierarchy.specs.Class.{MemberFact, ClassFact, class_of, world_of, IsSubclass}
 use Rattle.hierarchy.specs.private.Flags.{AreNumbers, KeepNumbers}
-use Rattle.hierarchy.specs.private.Inheritance.{Declares, Inherits, InheritsAny, InheritSoFar, IsCoded, IsProtectedAt, free, kept, KeepVersions, NumberAll, Tells, asked_number, declared_value}
+use Rattle.hierarchy.specs.private.Inheritance.{Declares, Inherits, InheritsAny, InheritSoFar, IsCoded, IsProtectedAt, free, kept, KeepVersions, NumberAll, Tells, asked_number, declared_value, has_length}
 use Rattle.hierarchy.specs.private.MemberNumbers.{member_number}
 use Rattle.hierarchy.specs.Nearest.{MemberReference, Declaration, declared_by, is_named, nearest, IsNearest, here, above, is_elsewhere, is_protected_elsewhere, is_guarded, package_of}
 use Rattle.hierarchy.specs.Rules.{IsHierarchy}
@@ -22,6 +23,7 @@ use Rattle.hierarchy.specs.World.{superclass_in, IsSubclassIn}
 use Rattle.hierarchy.specs.World as world
 use Rattle.hierarchy.proofs.Chain.{shorten}
 use Rattle.hierarchy.proofs.Guards.{TextNumbers, at_last, named_is}
+use Rattle.hierarchy.proofs.NameLengths.{noted_here, noted_still}
 use Rattle.hierarchy.proofs.Names.{none_some, some_same}
 use Rattle.hierarchy.proofs.Nearby.{computed}
 use Rattle.hierarchy.proofs.Subclass.{alone, chain_met, met_chain}
@@ -57,6 +59,8 @@ module _ (classes all : List ClassFact) (numbers : MemberNumbers) (old new : Ver
     chain = λ p d e. subst (Tells (IsSubclass classes c.name d.name)) (sym (keep.same i.ancestors x.is_chain p)) (x.chain p d e);
     members = λ r k e. subst (IsCoded classes all r c.name) (sym (keep.same i.members x.is_members k)) (x.members r k e);
     in_package = texts (package_of c.name) i.package_number x.in_package;
+    lengths = x.lengths;
+    long = x.long;
   }
 
 -- ---- the class above
@@ -207,10 +211,18 @@ module _ (classes all : List ClassFact) (a : Ancestry) (is : all ≡ facts_at a.
         by None x = subst (IsVersion old) (sym x.1) far.zero_there
         by (Some d) x = x.is_members
 
+    -- there is room for the lengths of names
+    pub lengths_long : length i.lengths ≡ 64
+    lengths_long = by (class_above classes c) from
+      where
+        by : (o : Option ClassFact) → InheritsAny classes all numbers old packages o i → length i.lengths ≡ 64
+        by None x = x.2
+        by (Some d) x = x.long
+
     module _ (ancestors members number : ℕ) (puts : Puts old one i.ancestors p 1 ancestors) (declares : Declares numbers one new c.members (suc p) i.members members)
         (texts : KeepNumbers packages more) (named_now : number_of more (package_of c.name) ≡ Some number) (texts_good : AreNumbers more) where
       abbrev made : Inherited
-      made = record { ancestors = ancestors; members = members; package_number = number }
+      made = record { ancestors = ancestors; members = members; package_number = number; lengths = slice_set i.lengths (length c.name % 64) true }
 
       first : KeepVersions old one
       first = put_keeps old one i.ancestors p 1 ancestors puts
@@ -258,8 +270,44 @@ module _ (classes all : List ClassFact) (a : Ancestry) (is : all ≡ facts_at a.
           subst (IsCoded classes all r c.name) (sym (declares.values r k e ∙ ap (declared_value (suc p) (declared_by c r)) (first.same i.members members_there k)))
           (code_above p c at r (value_at old i.members k) (class_above classes c) refl (λ x g. (from_class x g).members r k e) (zero_members k))
 
+      -- the length of a name that another class above has was noted for the class directly above
+      noted_above : (q : ℕ) (d : ClassFact) → slice_get all q ≡ Some d → (q ≡ p → ⊥) → IsSubclass classes c.name d.name → has_length i.lengths d.name ≡ true
+      noted_above q d e apart sub = by (class_above classes c) refl
+        where
+          not_zero : Tells (IsSubclass classes c.name d.name) (value_at old i.ancestors q) → value_at old i.ancestors q ≡ 0 → ⊥
+          not_zero (inl (z, none)) = absurd (none sub)
+          not_zero (inr (nz, is)) = nz
+
+          some : value_at old i.ancestors q ≡ 0 → ⊥
+          some = not_zero (tell_above p c at (value_at old i.ancestors q) q d e apart (class_above classes c) refl (λ x g. (from_class x g).chain q d e) (zero_chain q))
+
+          told : (x : ClassFact) → Inherits classes all numbers old packages x i → Tells (IsSubclass classes x.name d.name) (value_at old i.ancestors q) → has_length i.lengths d.name ≡ true
+          told x h (inl (z, none)) = absurd (some z)
+          told x h (inr (nz, is)) = h.lengths q d e is
+
+          by : (o : Option ClassFact) → class_above classes c ≡ o → has_length i.lengths d.name ≡ true
+          by None g = absurd (some (zero_chain q g))
+          by (Some x) g = let h = from_class x g in told x h (h.chain q d e)
+
+      noted : (q : ℕ) (d : ClassFact) → slice_get all q ≡ Some d → IsSubclass classes c.name d.name → has_length made.lengths d.name ≡ true
+      noted q d e sub = by (q == p) refl
+        where
+          by : (b : Bool) → (q == p) ≡ b → has_length made.lengths d.name ≡ true
+          by true f =
+              let is_it : c ≡ d = some_same (sym at ∙ ap (slice_get all) (sym (eqb-true q p f)) ∙ e) in
+              subst (λ (w : ClassFact). has_length made.lengths w.name ≡ true) is_it (noted_here i.lengths lengths_long c.name)
+          by false f = noted_still i.lengths lengths_long c.name d.name (noted_above q d e (eqb-false q p f) sub)
+
       inherits_made : Inherits classes all numbers new more c made
-      inherits_made = record { is_chain = declares.keeps.stays ancestors puts.version; is_members = declares.there; chain = chains; members = codes; in_package = named_now }
+      inherits_made = record {
+        is_chain = declares.keeps.stays ancestors puts.version;
+        is_members = declares.there;
+        chain = chains;
+        members = codes;
+        in_package = named_now;
+        lengths = noted;
+        long = length-set i.lengths (length c.name % 64) true ∙ lengths_long;
+      }
 
       pub inherit_next : (then : List Inherited) → length of ≡ p → then ≡ of ++ made ∷ [] → InheritSoFar classes all numbers new more then
       inherit_next then long pushed = record {

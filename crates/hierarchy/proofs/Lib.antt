@@ -1,3 +1,4 @@
+pub mod NameLengths
 pub mod Names
 pub mod Chain
 pub mod Breaking

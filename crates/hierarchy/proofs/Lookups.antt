@@ -10,7 +10,7 @@ use Rattle.hierarchy.specs.declared.inheritance.Inheritance.{Inheritance}
 use Rattle.hierarchy.specs.declared.summary.Summary.{Summary}
 use Rattle.hierarchy.specs.private.Ancestry.{facts_at, place_among}
 use Rattle.hierarchy.specs.Class.{ClassFact, IsSubclass}
-use Rattle.hierarchy.specs.private.Inheritance.{Inherits, IsCoded, IsInheritance, IsProtectedAt, free, kept, Tells}
+use Rattle.hierarchy.specs.private.Inheritance.{Inherits, has_length, IsCoded, IsInheritance, IsProtectedAt, free, kept, Tells}
 use Rattle.hierarchy.specs.Nearest.{MemberReference, Declaration, IsNearest, is_guarded}
 use Rattle.hierarchy.specs.Rules.{IsHierarchy}
 use Rattle.hierarchy.specs.Summary.{fact_of}
@@ -53,6 +53,16 @@ protected_some classes all r name p (kept d e n t) = (d, e, n, t)
 
 -- ---- places
 
+pub entry_at : (entries : List Inherited) (p : ℕ) → p < length entries → (i : Inherited) × (slice_get entries p ≡ Some i)
+entry_at entries p lt = by (slice_get entries p) refl
+  where
+    missing : Inherited
+    missing = record { ancestors = 0; members = 0; package_number = 0; lengths = [] }
+
+    by : (o : Option Inherited) → slice_get entries p ≡ o → (i : Inherited) × (slice_get entries p ≡ Some i)
+    by None e = absurd (none_some (sym e ∙ slice_get-get_or entries p missing lt))
+    by (Some i) e = (i, e)
+
 module _ (classes : List ClassFact) (h : Inheritance) (is : IsInheritance classes h) where
   abbrev all : List ClassFact
   all = facts_at h.ancestry.classes.items
@@ -93,6 +103,12 @@ module _ (classes : List ClassFact) (h : Inheritance) (is : IsInheritance classe
     no_place none = apart_free classes (formed_at class c at) c r (λ sub.
         let x = reach_placed classes all h.ancestry refl is.ancestry h.numbers (formed_at class c at) class c r.class at sub in
         none_some (sym none ∙ ap (place_among classes h.ancestry.places) (sym x.3) ∙ is.ancestry.places.exact x.0 x.1 x.2))
+
+    pub no_length : (i : Inherited) → slice_get h.table.of.items class ≡ Some i → has_length i.lengths r.class ≡ false → false ≡ is_guarded classes c.name r
+    no_length i e none = apart_free classes (formed_at class c at) c r (λ sub.
+        let x = reach_placed classes all h.ancestry refl is.ancestry h.numbers (formed_at class c at) class c r.class at sub in
+        let told = (is.inherit.each class c i at e).lengths x.0 x.1 x.2 (subst (IsSubclass classes c.name) (sym x.3) sub) in
+        false≢true (sym none ∙ ap (has_length i.lengths) (sym x.3) ∙ told))
 
     module _ (start : ℕ) (found : place_among classes h.ancestry.places r.class ≡ Some start) where
       pub start_at : (d : ClassFact) × (slice_get all start ≡ Some d) × (d.name ≡ r.class)

@@ -3,9 +3,10 @@ ghost use Rattle.std.specs.Prelude.{◌≡◌, ◌<◌, ◌↔◌, ◌+◌, List
 ghost use Rattle.hierarchy.specs.private.Above.{class_above};
 ghost use Rattle.hierarchy.specs.private.Ancestry.{IsAncestry, facts_at, place_among};
 ghost use Rattle.hierarchy.specs.Class.{ClassFact, IsSubclass};
-ghost use Rattle.hierarchy.specs.private.Inheritance.{Declares, HaveNumbers, InheritSoFar, InheritsAny, IsInheritance, IsProtectedAt, KeepMembers, NumberAll};
+ghost use Rattle.hierarchy.specs.private.Inheritance.{Declares, HaveNumbers, has_length, InheritSoFar, InheritsAny, IsInheritance, IsProtectedAt, KeepMembers, NumberAll};
 ghost use Rattle.hierarchy.specs.private.MemberNumbers.{AreMemberNumbers};
 ghost use Rattle.hierarchy.specs.Nearest.{is_guarded};
+ghost use Rattle.hierarchy.specs.declared.inheritance.Inherited.{Inherited as InheritedFact};
 ghost use Rattle.hierarchy.specs.declared.member_numbers.MemberNumbers.{MemberNumbers};
 ghost use Rattle.hierarchy.specs.Rules.{IsHierarchy};
 ghost use Rattle.hierarchy.specs.Summary.{fact_of, member_of, reference_of};
@@ -23,6 +24,9 @@ use crate::versions::Versions;
 use std::alloc::{AllocError, Global};
 use std::collections::BTreeMap;
 
+/// Lengths of names are told apart modulo this.
+const LENGTHS: usize = 64;
+
 /// The versions and the number that tell of one class.
 #[derive(Clone, Copy)]
 pub struct Inherited {
@@ -33,6 +37,9 @@ pub struct Inherited {
     members: usize,
     // The number of its package.
     package_number: usize,
+    // At each number below 64, whether a class that is this one or stands above it has a name of so many bytes, modulo
+    // 64.
+    lengths: [bool; LENGTHS],
 }
 
 /// The inheritance of classes: which classes stand above each, and the nearest declarations of protected members.
@@ -147,6 +154,7 @@ impl<'k> InheritanceTable<'k> {
             ancestors: 0,
             members: 0,
             package_number: 0,
+            lengths: [false; LENGTHS],
         };
         let Some(above) = class_above(classes, class) else {
             return nothing;
@@ -180,10 +188,13 @@ impl<'k> InheritanceTable<'k> {
         let ancestors = self.versions.put(above.ancestors, place, 1)?;
         let members = declare(&mut self.versions, numbers, class, place + 1, above.members)?;
         let package_number = number_of(&mut self.packages, package_of(class.name))?;
+        let mut lengths = above.lengths;
+        lengths[class.name.len() % LENGTHS] = true;
         self.of.push(Inherited {
             ancestors,
             members,
             package_number,
+            lengths,
         })?;
         Ok(())
     }
@@ -271,6 +282,16 @@ impl<'k> Inheritance<'k> {
         if place == 0 { None } else { Some(place - 1) }
     }
 
+    /// Whether the class at a place, or one above it, may have this name: told by the length of the name alone, so that
+    /// most names need no look-up.
+    fn may_be_above(&self, class: usize, name: &[u8]) -> bool
+        requires there { class < length self.now.table.of.items }
+        ensures { (i : InheritedFact) → slice_get self.now.table.of.items class ≡ Some i
+            → result ≡ has_length i.lengths name.now }
+    {
+        self.table.of[class].lengths[name.len() % LENGTHS]
+    }
+
     /// Whether the class at a place may use the member that a reference asks for on objects of its own alone.
     fn is_guarded<C: Classes>(&self, classes: &C, class: usize, reference: &MemberRef<'_>) -> bool
         requires good { IsInheritance (C.content classes.now) self.now }
@@ -278,6 +299,9 @@ impl<'k> Inheritance<'k> {
         ensures { (c : ClassFact) → slice_get (facts_at self.now.ancestry.classes.items) class ≡ Some c
             → result ≡ is_guarded (C.content classes.now) c.name (reference_of reference.now) }
     {
+        if !self.may_be_above(class, reference.class) {
+            return false;
+        }
         let Some(start) = self.place(classes, reference.class) else {
             return false;
         };

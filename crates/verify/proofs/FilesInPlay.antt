@@ -1,6 +1,6 @@
 -- Files that are classes, and all of them in play.
 use Rattle.std.proofs.Common.{◌≡◌, ℕ, zero, suc, ◌+◌, ◌<◌, ◌≤◌, List, [], ◌∷◌, ◌++◌, map, take, length, Option, Some, None, Result, Ok, Err, Vec, Global, refl, sym, subst, arith}
-use Rattle.classfile.specs.declared.form.Profile.{Profile}
+use Rattle.classfile.specs.declared.profile.Profile.{Profile}
 use Rattle.classfile.specs.Methods.{JudgedClass}
 use Rattle.classfile.specs.CodeMethods.{judged, judged_class}
 use Rattle.std.specs.Prelude.{slice_get, MatchResult, IfOk}

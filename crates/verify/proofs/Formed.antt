@@ -1,6 +1,6 @@
 -- Files that are classes, one behind the other, and what is answered of them.
 use Rattle.std.proofs.Common.{◌≡◌, ℕ, Bool, true, false, zero, suc, ◌<◌, List, [], ◌∷◌, ◌++◌, map, take, Some, None, Result, Ok, Err, subst, arith}
-use Rattle.classfile.specs.declared.form.Profile.{Profile}
+use Rattle.classfile.specs.declared.profile.Profile.{Profile}
 use Rattle.classfile.specs.CodeMethods.{judged}
 use Rattle.classfile.specs.Methods.{JudgedClass}
 use Rattle.std.specs.Prelude.{slice_get}

@@ -1,6 +1,6 @@
 -- One file more, among those whose classes are gathered, and among those that are judged.
 use Rattle.std.proofs.Common.{List, [], ◌∷◌, ◌++◌, refl, subst}
-use Rattle.classfile.specs.declared.form.Profile.{Profile}
+use Rattle.classfile.specs.declared.profile.Profile.{Profile}
 use Rattle.hierarchy.specs.Class.{ClassFact}
 use Rattle.verify.specs.declared.judgements.Judgement.{Judgement}
 use Rattle.verify.specs.Files.{Read}

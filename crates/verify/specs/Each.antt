@@ -2,7 +2,7 @@
 use Rattle.std.specs.Prelude.{◌≡◌, ◌≢◌, ◌⊎◌, ℕ, List, [], ◌∷◌, ◌++◌, is_some, if◌then◌else◌, Result, Ok, Err}
 use Rattle.classfile.specs.Values.{Class}
 use Rattle.classfile.specs.CodeMethods.{judged}
-use Rattle.classfile.specs.declared.form.Profile.{Profile}
+use Rattle.classfile.specs.declared.profile.Profile.{Profile}
 use Rattle.hierarchy.specs.declared.fault.HierarchyFault.TheVariants as hierarchies
 use Rattle.hierarchy.specs.Class.{ClassFact, class_of}
 use Rattle.hierarchy.specs.Rules.{IsHierarchy}

@@ -5,7 +5,7 @@ use Rattle.pool.specs.Lookups.{named}
 use Rattle.classfile.specs.Values.{Member, Class}
 use Rattle.classfile.specs.Methods.{JudgedClass}
 use Rattle.classfile.specs.CodeMethods.{judged}
-use Rattle.classfile.specs.declared.form.Profile.{Profile}
+use Rattle.classfile.specs.declared.profile.Profile.{Profile}
 use Rattle.classfile.specs.ClassFile as class_files
 use Rattle.classfile.specs.ClassFile.{IsClass}
 use Rattle.classfile.specs.WellFormed.{WellFormed, IsFirstFault}

@@ -2,8 +2,8 @@
 ghost use Rattle.std.specs.Prelude.{◌≡◌, ℕ, ◌+◌, ◌<◌, List, length, map, take, IfOk, IfErr, MatchResult};
 ghost use Rattle.classfile.specs.CodeMethods.{judged, judged_class};
 ghost use Rattle.classfile.specs.Methods.{JudgedClass};
-ghost use Rattle.classfile.specs.declared.form.Profile.{Profile as ProfileFact};
-ghost use Rattle.classfile.specs.declared.form.Profile.TheVariants.{Default};
+ghost use Rattle.classfile.specs.declared.profile.Profile.{Profile as ProfileFact};
+ghost use Rattle.classfile.specs.declared.profile.Profile.TheVariants.{Default};
 ghost use Rattle.hierarchy.specs.Rules.{IsHierarchy};
 ghost use Rattle.hierarchy.specs.Summary.{facts_of};
 ghost use Rattle.verify.specs.Files.{Read, read_of, OrMemory, IsRefused, IsFirstRefused};

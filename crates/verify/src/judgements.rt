@@ -1,6 +1,6 @@
 //! The classes of many files, each judged among all of them.
 ghost use Rattle.std.specs.Prelude.{◌≡◌, List, map, IfOk, IfErr, MatchResult};
-ghost use Rattle.classfile.specs.declared.form.Profile.{Profile as ProfileFact};
+ghost use Rattle.classfile.specs.declared.profile.Profile.{Profile as ProfileFact};
 ghost use Rattle.hierarchy.specs.Summary.{facts_of};
 ghost use Rattle.hierarchy.specs.Class.{ClassFact};
 ghost use Rattle.hierarchy.specs.Rules.{IsHierarchy};

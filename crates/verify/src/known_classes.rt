@@ -1,8 +1,8 @@
 //! A class among its known classes.
 ghost use Rattle.std.specs.Prelude.{◌≡◌, ℕ, Bool, ◌+◌, List, Err, map};
 ghost use Rattle.classfile.specs.CodeMethods.{judged_class};
-ghost use Rattle.classfile.specs.declared.form.Profile.{Profile as ProfileFact};
-ghost use Rattle.classfile.specs.declared.form.Profile.TheVariants.{Default};
+ghost use Rattle.classfile.specs.declared.profile.Profile.{Profile as ProfileFact};
+ghost use Rattle.classfile.specs.declared.profile.Profile.TheVariants.{Default};
 ghost use Rattle.hierarchy.specs.Class.{ClassFact};
 ghost use Rattle.hierarchy.specs.Summary.{facts_of};
 ghost use Rattle.verify.specs.Files.{Read, read_of, OrMemory, IsRefused, IsFirstRefused};

@@ -1,6 +1,6 @@
 -- The inheritance of classes, as it is kept: which classes stand above each, and which protected members each has, by
 -- versions of arrays. Words of the code's own steps.
-use Rattle.std.specs.Prelude.{◌≡◌, ◌⊎◌, ℕ, ◌<◌, suc, true, false, List, length, slice_get, Option, Some, None, IsSome, find, if◌then◌else◌, MatchOption}
+use Rattle.std.specs.Prelude.{◌≡◌, ◌⊎◌, ℕ, ◌<◌, ◌%◌, suc, Bool, true, false, List, length, slice_get, get_or, Option, Some, None, IsSome, find, if◌then◌else◌, MatchOption}
 use Rattle.std.specs.BTreeMap.{BTreeMap}
 use Rattle.std.specs.Borrow.{Bor}
 use Rattle.std.specs.Option.{option_map_or}
@@ -75,12 +75,18 @@ pub data IsProtectedAt (classes all : List ClassFact) (r : MemberReference) (nam
 abbrev pub IsCoded : List ClassFact → List ClassFact → MemberReference → List ℕ → ℕ → Type 0
 IsCoded classes all r name v = (o : Option ℕ) × (v ≡ option_map_or suc o 0) × IsProtectedAt classes all r name o
 
+-- ---- lengths of names
+
+-- the lengths have that of a name, modulo 64
+abbrev pub has_length : List Bool → List ℕ → Bool
+has_length lengths name = get_or lengths (length name % 64) false
+
 -- ---- classes
 
 module _ (classes all : List ClassFact) (numbers : MemberNumbers) (versions : Versions)
     (packages : BTreeMap (Bor (List ℕ)) ℕ) where
   -- a class has a version that tells of each class whether it is this one or stands above it, one with the values of
-  -- the members, and the number of its package
+  -- the members, the number of its package, and the lengths of its name and of the names of those above it
   pub record Inherits (c : ClassFact) (i : Inherited) : Type 0 where
     pub is_chain : IsVersion versions i.ancestors
     pub is_members : IsVersion versions i.members
@@ -89,10 +95,13 @@ module _ (classes all : List ClassFact) (numbers : MemberNumbers) (versions : Ve
     pub members : (r : MemberReference) (k : ℕ) → asked_number numbers r ≡ Some k
         → IsCoded classes all r c.name (value_at versions i.members k)
     pub in_package : number_of packages (package_of c.name) ≡ Some i.package_number
+    pub lengths : (p : ℕ) (d : ClassFact) → slice_get all p ≡ Some d → IsSubclass classes c.name d.name
+        → has_length i.lengths d.name ≡ true
+    pub long : length i.lengths ≡ 64
 
   -- where there is no class nothing is inherited
   abbrev pub InheritsAny : Option ClassFact → Inherited → Type 0
-  InheritsAny o i = MatchOption o ((i.ancestors ≡ 0) × (i.members ≡ 0)) (λ c. Inherits c i)
+  InheritsAny o i = MatchOption o ((i.ancestors ≡ 0) × (i.members ≡ 0) × (length i.lengths ≡ 64)) (λ c. Inherits c i)
 
   -- the first of these classes, as many as there are answers
   pub record InheritSoFar (of : List Inherited) : Type 0 where

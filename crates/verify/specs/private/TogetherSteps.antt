@@ -1,7 +1,7 @@
 -- Words of the code's own steps from files to classes in play: nothing that a reader must believe rests on them.
 use Rattle.std.specs.Prelude.{ℕ, ◌<◌, List, [], ◌∷◌, length, take, map, Option, Some, None}
 use Rattle.classfile.specs.Values.{Class}
-use Rattle.classfile.specs.declared.form.Profile.{Profile}
+use Rattle.classfile.specs.declared.profile.Profile.{Profile}
 use Rattle.classfile.specs.declared.class_file.ClassFile.{ClassFile}
 use Rattle.classfile.specs.Views.{class_view}
 use Rattle.classfile.specs.WellFormed.{WellFormed}

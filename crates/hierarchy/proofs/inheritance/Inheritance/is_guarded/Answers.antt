@@ -3,9 +3,15 @@ use Rattle.std.proofs.lemmas.Bool.{false≢true}
 use Rattle.hierarchy.specs.private.Ancestry.{facts_at}
 use Rattle.hierarchy.specs.private.Inheritance.{IsProtectedAt}
 use Rattle.hierarchy.specs.Summary.{reference_of}
-use Rattle.hierarchy.proofs.Lookups.{no_place, protected_some, start_apart, start_at, start_free, start_guarded, start_itself, within}
+use Rattle.hierarchy.proofs.Lookups.{entry_at, no_length, no_place, protected_some, start_apart, start_at, start_free, start_guarded, start_itself, within}
 use Rattle.hierarchy.proofs.inheritance.Inheritance.is_guarded.Goals.{then-start-class-via-then-start-class, then-start-class-via-else-start-class+then-not-is_below}
 use Rattle.hierarchy.proofs.inheritance.Inheritance.is_guarded.Goals as goal
+
+pub returns-then-not-may_be_above : goal.returns-then-not-may_be_above
+returns-then-not-may_be_above g c a at =
+    let h = c.args.self.now in
+    let i = entry_at h.table.of.items c.args.class c.requires.there in
+    no_length (g.C.Classes.content c.args.classes.now) h c.requires.good c.args.class a at (reference_of c.args.reference.now) i.0 i.1 (sym (c.may_be_above.ensures i.0 i.1) ∙ c.if-not-may_be_above.true)
 
 pub returns-in_default : goal.returns-in_default
 returns-in_default g c a at = no_place (g.C.Classes.content c.args.classes.now) c.args.self.now c.requires.good c.args.class a at (reference_of c.args.reference.now) (sym c.place.ensures ∙ c.in_default.is)

@@ -7,7 +7,7 @@ use Rattle.layout.specs.FormatLaws.{reads_fault}
 use Rattle.layout.specs.Whole.{not_refused, nothing_more, has_more, is_whole}
 use Rattle.classfile.specs.ClassFile.{class}
 use Rattle.classfile.specs.Views.{class_view}
-use Rattle.classfile.proofs.decoding.whole_class.Goals as goal
+use Rattle.classfile.proofs.codec.whole_class.Goals as goal
 
 pub returns-in_err-class-clause-only : goal.returns-in_err-class-clause-only
 returns-in_err-class-clause-only c =

@@ -1,5 +1,5 @@
 use Rattle.std.proofs.Common.{rules}
-use Rattle.classfile.proofs.decoding.decode.Goals as goal
+use Rattle.classfile.proofs.codec.decode.Goals as goal
 
 pub returns-clause-only : goal.returns-clause-only
 returns-clause-only c = search rules

@@ -1,15 +1,19 @@
-//! From bytes to a class.
-ghost use Rattle.std.specs.Prelude.{◌≡◌, ℕ, IfOk, IfErr};
-ghost use Rattle.layout.specs.Format.{Spells};
+//! From bytes to a class, and from a class to bytes.
+ghost use Rattle.std.specs.Prelude.{◌≡◌, ℕ, List, IfOk, IfErr};
+ghost use Rattle.layout.specs.Format.{AreBytes, Spells};
 ghost use Rattle.layout.specs.Whole.{WholeFault};
 ghost use Rattle.layout.specs.Faults.{UnlessMemory};
+ghost use Rattle.layout.specs.Pieces.{Delivers};
+ghost use Rattle.layout.specs.declared.fault.ReadFault.TheVariants.{OutOfMemory, BytesAfter};
+ghost use Rattle.layout.specs.declared.fault.WriteFault.TheVariants as writing;
 ghost use Rattle.classfile.specs.Values.{Class};
 ghost use Rattle.classfile.specs.ClassFile.{class, IsClass, ClassFault};
+ghost use Rattle.classfile.specs.Encoding.{Encodes};
+ghost use Rattle.classfile.specs.private.Pieces.{class_pieces};
 ghost use Rattle.classfile.specs.Views.{class_view};
-ghost use Rattle.layout.specs.declared.fault.ReadFault.TheVariants.{OutOfMemory, BytesAfter};
 
-use crate::class_file::{ClassFile, class};
-use layout::{Cursor, MAX_CLASS_BYTES, ReadFault};
+use crate::class_file::{ClassFile, class, put_class};
+use layout::{Cursor, MAX_CLASS_BYTES, Output, ReadFault, WriteFault};
 use std::alloc::Global;
 
 /// The class that the bytes spell (JVMS 4.1), which borrows its texts, bodies and code from them.
@@ -45,4 +49,26 @@ fn whole_class(alloc: Global, bytes: &[u8]) -> Result<ClassFile<'_>, ReadFault>
         return Err(ReadFault::BytesAfter { at: cursor.at() });
     }
     Ok(class)
+}
+
+fn written(alloc: Global, class: &ClassFile<'_>) -> Result<Vec<u8>, WriteFault>
+    ensures { Delivers (class_pieces (class_view class.now)) (λ v. v.items) result }
+{
+    let mut out = Output::new(alloc);
+    let answer = put_class(&mut out, class);
+    out.delivered(answer)
+}
+
+/// The bytes that spell the class.
+///
+/// 17 where a count or a length passes its field or the parts have more than 16,777,216 bytes, and otherwise 18
+/// where no bytes spell the class, as where a raw attribute would be read by field; or 1 where memory runs out.
+pub fn encode(alloc: Global, class: &ClassFile<'_>) -> Result<Vec<u8>, WriteFault>
+    // The bytes that are answered spell the class; and which refusal it is.
+    ensures exact { Encodes (class_view class.now) (λ v. v.items) result }
+    // A class that has a spelling is written, unless memory runs out.
+    ensures only { (bytes : List ℕ) → AreBytes bytes → IsClass bytes (class_view class.now)
+        → IfErr result (λ e. e ≡ writing.OutOfMemory) }
+{
+    written(alloc, class)
 }
