@@ -19,6 +19,15 @@ use hierarchy::Classes;
 use insn::BranchTargets;
 use std::alloc::Global;
 
+/// The parts of a [`Choice::Go`](crate::Choice::Go) that do not make objects.
+#[derive(Clone, Copy)]
+pub struct Completion {
+    /// The offset in the code that is gone to, in bytes, given exactly for an instruction with targets.
+    pub branch: Option<u16>,
+    /// The value that is answered, given exactly for an instruction that asks for one.
+    pub answer: Option<Value>,
+}
+
 // Whether the method then ends.
 fn is_last(effect: &Effect<'_>) -> bool
     ensures { IsTrue result ↔ IsLast (effect_view effect.now) }
@@ -93,19 +102,23 @@ fn go_on<'a, C: Classes>(
     effect: &Effect<'a>,
     next: Option<u16>,
     state: State<'a>,
-    branch: Option<u16>,
-    answer: Option<Value>,
+    completion: Completion,
     classes: &C,
 ) -> Result<State<'a>, StepFault>
     ensures { let s = state_view state.entry in
-        Done (GoesOn (world_of (C.content classes.now)) (effect_view effect.now) next s s.heap branch
-        (option_map value_view answer)) result }
+        Done (GoesOn (world_of (C.content classes.now)) (effect_view effect.now) next s s.heap completion.branch
+        (option_map value_view completion.answer)) result }
 {
-    let Some(at) = way(targets(state.offset(), effect), falls(effect), next, branch) else {
+    let Some(at) = way(
+        targets(state.offset(), effect),
+        falls(effect),
+        next,
+        completion.branch,
+    ) else {
         return Err(StepFault::NotAChoice);
     };
     let moved = moved_to(state, at);
-    done(alloc, effect, moved, answer, classes)
+    done(alloc, effect, moved, completion.answer, classes)
 }
 
 /// The outcome of an instruction that does this, where that is the next start.
@@ -114,23 +127,22 @@ pub fn go<'a, C: Classes>(
     effect: &Effect<'a>,
     next: Option<u16>,
     state: State<'a>,
-    branch: Option<u16>,
-    answer: Option<Value>,
+    completion: Completion,
     fresh: &[(u32, RunType<'a>)],
     classes: &C,
 ) -> Result<Outcome<'a>, StepFault>
-    ensures { Goes (world_of (C.content classes.now)) (effect_view effect.now) next (state_view state.entry) branch
-        (option_map value_view answer) (fresh_view fresh.now) result }
+    ensures { Goes (world_of (C.content classes.now)) (effect_view effect.now) next (state_view state.entry) completion.branch
+        (option_map value_view completion.answer) (fresh_view fresh.now) result }
 {
     let state = with_fresh(state, fresh)?;
     if is_last(effect) {
-        return if branch.is_none() && answer.is_none() {
+        return if completion.branch.is_none() && completion.answer.is_none() {
             Ok(Outcome::Ended)
         } else {
             Err(StepFault::NotAChoice)
         };
     }
-    match go_on(alloc, effect, next, state, branch, answer, classes) {
+    match go_on(alloc, effect, next, state, completion, classes) {
         Ok(after) => Ok(Outcome::Next(after)),
         Err(fault) => Err(fault),
     }

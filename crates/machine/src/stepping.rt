@@ -7,7 +7,7 @@ ghost use Rattle.machine.specs.Views.{state_view, choice_view};
 
 use crate::body::Method;
 use crate::choosing::{Choice, Outcome, StepFault};
-use crate::completion::go;
+use crate::completion::{Completion, go};
 use crate::demands::meets;
 use crate::effects::effect_of;
 use crate::raising::raise;
@@ -41,9 +41,13 @@ pub(crate) fn advance<'a, C: Classes>(
             branch,
             answer,
             fresh,
-        } => go(
-            alloc, &effect, next, state, *branch, *answer, fresh, classes,
-        ),
+        } => {
+            let completion = Completion {
+                branch: *branch,
+                answer: *answer,
+            };
+            go(alloc, &effect, next, state, completion, fresh, classes)
+        }
         Choice::Raise {
             address,
             fresh,

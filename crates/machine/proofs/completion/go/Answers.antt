@@ -13,7 +13,7 @@ returns-in-Ok g c =
     let s = state_view c.args.state in
     let new = fresh_view c.args.fresh.now in (
       c.in_ok-state.ensures.0,
-      goes_from_there (world_of (g.C.Classes.content c.args.classes.now)) (effect_view c.args.effect.now) c.args.next s (with_fresh s.heap new) c.args.branch (option_map value_view c.args.answer)
+      goes_from_there (world_of (g.C.Classes.content c.args.classes.now)) (effect_view c.args.effect.now) c.args.next s (with_fresh s.heap new) c.args.completion.branch (option_map value_view c.args.completion.answer)
           (state_view c.in_ok-state.state) c.in_ok-state.ensures.1 (Ok c.in-Ok.after) c.in-Ok.ensures,
     )
 
@@ -23,6 +23,6 @@ returns-in-Err g c =
     let t = effect_view c.args.effect.now in
     let s = state_view c.args.state in
     let new = fresh_view c.args.fresh.now in
-    refused w t c.args.next s (with_fresh s.heap new) new c.args.branch (option_map value_view c.args.answer) c.in-Err.fault
-    (goes_from_there w t c.args.next s (with_fresh s.heap new) c.args.branch (option_map value_view c.args.answer) (state_view c.in_ok-state.state) c.in_ok-state.ensures.1 (Err c.in-Err.fault) c.in-Err.ensures)
+    refused w t c.args.next s (with_fresh s.heap new) new c.args.completion.branch (option_map value_view c.args.completion.answer) c.in-Err.fault
+    (goes_from_there w t c.args.next s (with_fresh s.heap new) c.args.completion.branch (option_map value_view c.args.completion.answer) (state_view c.in_ok-state.state) c.in_ok-state.ensures.1 (Err c.in-Err.fault) c.in-Err.ensures)
     refl (λ l. false≢true (sym c.if-is_last.false ∙ c.is_last.ensures.1 l))

@@ -14,8 +14,8 @@ returns g c =
     let w = world_of (g.C.Classes.content c.args.classes.now) in
     let t = effect_view c.args.effect.now in
     let s = state_view c.args.state in
-    let way : GoesWay t c.args.next s.at c.args.branch c.in-Some.at =
-    subst (λ k. MayGo (targets k t) (falls t) c.args.next c.args.branch c.in-Some.at) c.offset.ensures
-    (subst (λ z. MayGo z (falls t) c.args.next c.args.branch c.in-Some.at) c.targets.ensures
-    (subst (λ z. MayGo (targets_of c.targets.result) z c.args.next c.args.branch c.in-Some.at) c.falls.ensures c.in-Some.ensures)) in
-    goes_on_there w t c.args.next s s.heap c.args.branch (option_map value_view c.args.answer) c.in-Some.at (state_view c.moved_to-moved.result) c.moved_to-moved.ensures way c.done.result c.done.ensures
+    let way : GoesWay t c.args.next s.at c.args.completion.branch c.in-Some.at =
+    subst (λ k. MayGo (targets k t) (falls t) c.args.next c.args.completion.branch c.in-Some.at) c.offset.ensures
+    (subst (λ z. MayGo z (falls t) c.args.next c.args.completion.branch c.in-Some.at) c.targets.ensures
+    (subst (λ z. MayGo (targets_of c.targets.result) z c.args.next c.args.completion.branch c.in-Some.at) c.falls.ensures c.in-Some.ensures)) in
+    goes_on_there w t c.args.next s s.heap c.args.completion.branch (option_map value_view c.args.completion.answer) c.in-Some.at (state_view c.moved_to-moved.result) c.moved_to-moved.ensures way c.done.result c.done.ensures
