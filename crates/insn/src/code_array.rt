@@ -3,9 +3,9 @@ ghost use Rattle.std.specs.Prelude.{◌≡◌};
 
 use crate::fault::CodeFault;
 use crate::instruction::{Insn, Operands};
-use crate::meaning::{act, act_alone, act_by_parts, made_by_parts, made_index};
+use crate::meaning::{act, made_index};
 use crate::operation::Act;
-use crate::reading::{read_insn, take_alone, take_parts};
+use crate::reading::{read_insn, skip_plain, take_alone, take_new, take_plain_act};
 use layout::Cursor;
 use std::marker::Model;
 
@@ -65,11 +65,8 @@ impl<'a> Instructions<'a> {
         requires { HasInstruction self.old }
         ensures { StepsBy act_located by_act self.old (Some (Ok (self.old.at, result))) self.new }
     {
-        if let Some(opcode) = take_alone(&mut self.cursor) {
-            return act_alone(opcode);
-        }
-        match take_parts(&mut self.cursor) {
-            Some((opcode, parts)) => act_by_parts(opcode, &parts),
+        match take_plain_act(&mut self.cursor) {
+            Some(act) => act,
             None => self.act_with_operands(),
         }
     }
@@ -87,18 +84,15 @@ impl<'a> Instructions<'a> {
 
     /// Goes on as `next` does, and tells of an instruction where it begins and, if it is a `new`, the index of the
     /// class of which it makes an object (JVMS 6.5, new).
-    #[tactic(auto, using(crate::proofs::Alone::makes_none))]
+    #[inline(always)]
     pub fn next_start(&mut self) -> Option<Result<(usize, Option<u16>), CodeFault>>
         ensures { StepsBy (λ x. x) by_made self.old result self.new }
     {
         let at = self.cursor.at();
-        if take_alone(&mut self.cursor).is_some() {
+        if skip_plain(&mut self.cursor) {
             return Some(Ok((at, None)));
         }
-        match take_parts(&mut self.cursor) {
-            Some((opcode, parts)) => Some(Ok((at, made_by_parts(opcode, &parts)))),
-            None => self.start_with_operands(),
-        }
+        self.start_with_operands()
     }
 
     /// Goes on as `next` does, which takes an instruction without operands itself.
@@ -123,6 +117,10 @@ impl<'a> Instructions<'a> {
     fn start_with_operands(&mut self) -> Option<Result<(usize, Option<u16>), CodeFault>>
         ensures { StepsBy (λ x. x) by_made self.old result self.new }
     {
+        let at = self.cursor.at();
+        if let Some(index) = take_new(&mut self.cursor) {
+            return Some(Ok((at, Some(index))));
+        }
         match self.next_with_operands()? {
             Ok((at, insn)) => Some(Ok((at, made_index(&insn)))),
             Err(fault) => Some(Err(fault)),
