@@ -31,7 +31,7 @@ impl<'a> Model for Instructions<'a> {
 }
 
 impl<'a> Instructions<'a> {
-    ghost use Rattle.std.specs.Prelude.{Some, Ok, length, nat_eq};
+    ghost use Rattle.std.specs.Prelude.{true, false, Some, None, Ok, length, nat_eq};
     ghost use Rattle.insn.specs.Code.{StepsBy, StepsThrough, HasInstruction};
     ghost use Rattle.insn.specs.Offsets.{by_act, by_made};
     ghost use Rattle.insn.specs.Views.{act_located, located};
@@ -61,6 +61,7 @@ impl<'a> Instructions<'a> {
 
     /// Goes behind the instruction in front and tells what it means, as [`act`](crate::act) does. One has to stand
     /// there.
+    #[inline(always)]
     pub fn take_act(&mut self) -> Act<'a>
         requires { HasInstruction self.old }
         ensures { StepsBy act_located by_act self.old (Some (Ok (self.old.at, result))) self.new }
@@ -82,14 +83,23 @@ impl<'a> Instructions<'a> {
         }
     }
 
+    /// Goes behind the instruction in front, where any bytes are its operands and it is no `new`, and tells that it did;
+    /// otherwise it stays where it is, and [`next_start`](Instructions::next_start) goes on.
+    #[inline(always)]
+    pub fn skip_plain(&mut self) -> bool
+        ensures skipped { result ≡ true → StepsBy (λ x. x) by_made self.old (Some (Ok (self.old.at, None))) self.new }
+        ensures stayed { result ≡ false → self.new ≡ self.old }
+    {
+        skip_plain(&mut self.cursor)
+    }
+
     /// Goes on as `next` does, and tells of an instruction where it begins and, if it is a `new`, the index of the
     /// class of which it makes an object (JVMS 6.5, new).
-    #[inline(always)]
     pub fn next_start(&mut self) -> Option<Result<(usize, Option<u16>), CodeFault>>
         ensures { StepsBy (λ x. x) by_made self.old result self.new }
     {
         let at = self.cursor.at();
-        if skip_plain(&mut self.cursor) {
+        if self.skip_plain() {
             return Some(Ok((at, None)));
         }
         self.start_with_operands()

@@ -31,7 +31,7 @@ abbrev pub table_act : TableRow → Option means.Act
 table_act r = option_map act_view r.4
 
 -- the act of an opcode behind which nothing stands
-abbrev act_where : Form → Opcode → Option means.Act
+abbrev pub act_where : Form → Opcode → Option means.Act
 act_where forms.Nothing o = Some (act (record { opcode = o; operands = nothing }))
 act_where form o = None
 
