@@ -2,7 +2,7 @@
 use Rattle.std.proofs.Common.{◌≡◌, ◌≢◌, ◌∙◌, ℕ, ◌+◌, zero, suc, ◌<◌, ◌≤◌, true, List, [], ◌∷◌, ◌++◌, length, get_or, take, drop, Option, Some, None, Result, Ok, Err, is_ok, Bool, refl, sym, ap, subst, arith}
 use Rattle.std.proofs.lemmas.List.{append-nil, length-drop, length-take-le, nil_from_length, take-append-drop}
 use Rattle.std.specs.Int.{cast_signed, w8, w16, w32}
-use Rattle.std.specs.Prelude.{option_map}
+use Rattle.std.specs.Prelude.{option_map, nat_eq, if◌then◌else◌}
 use Rattle.std.specs.Result.{result_ok}
 use Rattle.byteorder.specs.Endian.{big_number}
 use Rattle.layout.specs.Place.{Place, Took}
@@ -10,7 +10,7 @@ use Rattle.layout.specs.Format.{Format, Spells, done, part, andthen, number, rea
 use Rattle.layout.specs.Faults.{Reads}
 use Rattle.layout.specs.FormatLaws.{part_reads, andthen_spelled}
 use Rattle.layout.specs.declared.fault.ReadFault.{ReadFault}
-use Rattle.insn.specs.declared.fault.CodeFault.{CodeFault}
+use Rattle.insn.specs.declared.fault.CodeFault.TheVariants.{NonZeroByte}
 use Rattle.insn.specs.declared.opcode.Opcode.{Opcode}
 use Rattle.insn.specs.declared.opcode.Opcode.TheVariants.{New}
 use Rattle.insn.specs.declared.operation.Act as program
@@ -18,8 +18,8 @@ use Rattle.insn.specs.declared.operation.Meaning.{Meaning}
 use Rattle.insn.specs.declared.table.Form.{Form}
 use Rattle.insn.specs.declared.table.Form.TheVariants as forms
 use Rattle.insn.specs.Code.{SpellsInstruction, modified}
-use Rattle.insn.specs.Instructions.{Instruction, Operands, Outcome, nothing, byte, short, constant, index, local, increment, branch, wide_branch, new_array, multi_new_array, operands_at, of_opcode, behind_opcode, instruction_at}
-use Rattle.insn.specs.Meanings.{act, act_of, made_index}
+use Rattle.insn.specs.Instructions.{Instruction, Operands, Outcome, nothing, byte, short, constant, index, local, increment, branch, wide_branch, invoke_interface, new_array, multi_new_array, operands_at, invoke_interface_at, of_opcode, behind_opcode, instruction_at}
+use Rattle.insn.specs.Meanings.{act, act_of, made_index, local_of, index_of, byte_of}
 use Rattle.insn.specs.Opcodes.{Row, form, meaning, number as opcode_number, opcode_of}
 use Rattle.insn.specs.Meanings as means
 use Rattle.insn.specs.Views.{act_view}
@@ -262,3 +262,44 @@ act_taken view old new d r a k answer b row has read e =
     let spelled = subst (λ (f : Form). Spells (operands_at old.at f) (drop 1 (take k old.rest)) (Ok x)) same_form (has.spelled old.at) in
     let (first, spells, took) = taken view old new k d answer b o x has.some row.opcode spelled read e in
     (record { opcode = o; operands = x }, has.act ∙ ap (λ (m : Meaning). act_of m x) same_meaning, first, spells, took)
+
+-- ---- operands of more numbers
+
+pub increment_there : (bytes : List ℕ) (f : Form) (m : Meaning) (a : program.Act) → f ≡ forms.Increment → 3 ≤ length bytes
+    → ((x : Operands) → get_or bytes 1 0 ≡ local_of x → act_view a ≡ act_of m x) → HasAct bytes f m a 3
+unfolding operands_at
+increment_there (n ∷ l ∷ b ∷ rest) f m a is long told =
+    let named : l ≡ big_number 1 (l ∷ []) = omega arith in
+    record {
+      operands = increment (big_number 1 (l ∷ [])) (cast_signed w8 (big_number 1 (b ∷ [])));
+      some = omega arith;
+      within = long;
+      spelled = λ at. subst (λ (g : Form). Spells (operands_at at g) (l ∷ b ∷ []) (Ok (increment (big_number 1 (l ∷ [])) (cast_signed w8 (big_number 1 (b ∷ [])))))) (sym is) (two_numbers 1 1 (λ n by. increment n (cast_signed w8 by)) (l ∷ b ∷ []) refl);
+      plain = λ o. refl;
+      act = told _ named;
+    }
+increment_there _ f m a is long told = absurd (omega (arith, long))
+
+abbrev interface_behind : ℕ → ℕ → ℕ → ℕ → Format Outcome
+interface_behind at i count n = if nat_eq n 0 then done (outcome (invoke_interface i count)) else done (Err (NonZeroByte at))
+
+pub interface_there : (bytes : List ℕ) (f : Form) (m : Meaning) (a : program.Act) → f ≡ forms.InvokeInterface → 5 ≤ length bytes → get_or bytes 4 0 ≡ 0
+    → ((x : Operands) → big_number 2 (get_or bytes 1 0 ∷ get_or bytes 2 0 ∷ []) ≡ index_of x → get_or bytes 3 0 ≡ byte_of x → act_view a ≡ act_of m x) → HasAct bytes f m a 5
+unfolding operands_at invoke_interface_at
+interface_there (n ∷ h ∷ l ∷ c ∷ z ∷ rest) f m a is long none told =
+    let i = big_number 2 (h ∷ l ∷ []) in
+    let count = big_number 1 (c ∷ []) in
+    let free : big_number 1 (z ∷ []) ≡ 0 = omega (arith, none) in
+    let named : c ≡ count = omega arith in
+    let last : (at : ℕ) → Spells (interface_behind at i count (big_number 1 (z ∷ []))) [] (outcome (invoke_interface i count)) =
+    λ at. subst (λ (k : ℕ). Spells (interface_behind at i count k) [] (outcome (invoke_interface i count))) (sym free) (refl, refl) in
+    record {
+      operands = invoke_interface i count;
+      some = omega arith;
+      within = long;
+      spelled = λ at. subst (λ (g : Form). Spells (operands_at at g) (h ∷ l ∷ c ∷ z ∷ []) (outcome (invoke_interface i count))) (sym is)
+          (h ∷ l ∷ [], c ∷ z ∷ [], refl, refl, (c ∷ [], z ∷ [], refl, refl, (z ∷ [], [], refl, refl, last at)));
+      plain = λ o. refl;
+      act = told (invoke_interface i count) refl named;
+    }
+interface_there _ f m a is long none told = absurd (omega (arith, long))

@@ -95,9 +95,13 @@ impl<'a> Instructions<'a> {
 
     /// Goes on as `next` does, and tells of an instruction where it begins and, if it is a `new`, the index of the
     /// class of which it makes an object (JVMS 6.5, new).
+    #[inline(never)]
     pub fn next_start(&mut self) -> Option<Result<(usize, Option<u16>), CodeFault>>
         ensures { StepsBy (λ x. x) by_made self.old result self.new }
     {
+        if self.is_at_end() {
+            return None;
+        }
         let at = self.cursor.at();
         if self.skip_plain() {
             return Some(Ok((at, None)));

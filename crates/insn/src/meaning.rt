@@ -2,7 +2,7 @@
 ghost use Rattle.std.specs.Prelude.{◌≡◌};
 ghost use Rattle.insn.specs.Code.{modified};
 ghost use Rattle.insn.specs.Meanings.{act, made_index, element_of, index_of, local_of, offset_of};
-ghost use Rattle.insn.specs.private.Parts.{AreParts, IsActAlways, IsActBy, IsActOf};
+ghost use Rattle.insn.specs.private.Parts.{AreParts, IsActAlways, IsActBy, IsActOf, index_and_byte};
 ghost use Rattle.insn.specs.Views.{view, operands_view, act_view};
 
 use crate::instruction::{Insn, Operands, modified};
@@ -54,8 +54,8 @@ pub(crate) fn act_of_index<'a>(meaning: Meaning, index: u16) -> Option<Act<'a>>
     })
 }
 
-/// The act of this meaning with a local variable alone as operand; none where no such instruction has this meaning, or
-/// it is unsupported.
+/// The act of this meaning with a local variable alone as operand, or with what is added to it; none where no such
+/// instruction has this meaning, or it is unsupported.
 #[inline(always)]
 pub(crate) fn act_of_local<'a>(meaning: Meaning, local: u16) -> Option<Act<'a>>
     ensures { IsActBy local_of meaning local result }
@@ -65,6 +65,7 @@ pub(crate) fn act_of_local<'a>(meaning: Meaning, local: u16) -> Option<Act<'a>>
         Meaning::LoadReference => Act::LoadReference { local },
         Meaning::Store(kind) => Act::Store { kind, local },
         Meaning::StoreReference => Act::StoreReference { local },
+        Meaning::Increment => Act::Increment { local },
         _ => return None,
     })
 }
@@ -83,6 +84,17 @@ pub(crate) fn act_of_offset<'a>(meaning: Meaning, offset: i32) -> Option<Act<'a>
         Meaning::Goto => Act::Goto { offset },
         _ => return None,
     })
+}
+
+/// The act of this meaning with an index and a count as operands; none where no such instruction has this meaning.
+#[inline(always)]
+pub(crate) fn act_of_count<'a>(meaning: Meaning, index: u16, count: u8) -> Option<Act<'a>>
+    ensures { IsActBy index_and_byte meaning (index, count) result }
+{
+    match meaning {
+        Meaning::InvokeInterface => Some(Act::InvokeInterface { index, count }),
+        _ => None,
+    }
 }
 
 /// The act of this meaning with a number alone as operand; none where no such instruction has this meaning.

@@ -8,7 +8,7 @@ ghost use Rattle.insn.specs.Views.{operands_view, table_switch_view, lookup_swit
 
 use crate::fault::CodeFault;
 use crate::instruction::{Insn, Operands};
-use crate::meaning::{act_of_index, act_of_local, act_of_number, act_of_offset};
+use crate::meaning::{act_of_count, act_of_index, act_of_local, act_of_number, act_of_offset};
 use crate::opcode::Opcode;
 use crate::operation::{Act, Meaning};
 use crate::switch::{LookupSwitch, Pairs, TableSwitch};
@@ -352,10 +352,10 @@ pub(crate) fn take_new(cursor: &mut Cursor<'_>) -> Option<u16>
     Some(index)
 }
 
-/// The act of the instruction in front of these bytes, of this form and meaning, and how many bytes it has, where it has
-/// one operand; otherwise none.
+/// The act of the instruction in front of these bytes, of this form and meaning, and how many bytes it has, where its
+/// operands have at most four bytes and are of a common form; otherwise none.
 #[inline(always)]
-fn act_with_operand<'a>(bytes: &[u8], form: Form, meaning: Meaning) -> Option<(Act<'a>, usize)>
+fn act_with_operands<'a>(bytes: &[u8], form: Form, meaning: Meaning) -> Option<(Act<'a>, usize)>
     ensures { IfSome result (λ t. HasAct bytes.now form meaning t.0 t.1) }
 {
     match form {
@@ -385,13 +385,29 @@ fn act_with_operand<'a>(bytes: &[u8], form: Form, meaning: Meaning) -> Option<(A
             };
             Some((act_of_index(meaning, u16::from(*index))?, 2))
         }
+        Form::Increment => {
+            let [_, local, _, ..] = bytes else {
+                return None;
+            };
+            Some((act_of_local(meaning, u16::from(*local))?, 3))
+        }
+        Form::InvokeInterface => {
+            let [_, high, low, count, zero, ..] = bytes else {
+                return None;
+            };
+            if *zero != 0 {
+                return None;
+            }
+            let index = BigEndian::read_u16(&[*high, *low]);
+            Some((act_of_count(meaning, index, *count)?, 5))
+        }
         Form::Byte if bytes.len() >= 2 => Some((act_of_number(meaning)?, 2)),
         Form::Short if bytes.len() >= 3 => Some((act_of_number(meaning)?, 3)),
         _ => None,
     }
 }
 
-/// Goes behind the instruction in front and answers its act, where it has no operands or one of at most two bytes;
+/// Goes behind the instruction in front and answers its act, where it has no operands or those of a common form;
 /// otherwise, and where it is unsupported, the cursor stays where it is.
 #[inline(always)]
 pub(crate) fn take_plain_act<'a>(cursor: &mut Cursor<'_>) -> Option<Act<'a>>
@@ -405,7 +421,7 @@ pub(crate) fn take_plain_act<'a>(cursor: &mut Cursor<'_>) -> Option<Act<'a>>
         cursor.part(1).ok()?;
         return Some(*act);
     }
-    let (act, length) = act_with_operand(cursor.rest(), *form, *meaning)?;
+    let (act, length) = act_with_operands(cursor.rest(), *form, *meaning)?;
     cursor.part(length).ok()?;
     Some(act)
 }

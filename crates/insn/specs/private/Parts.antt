@@ -1,5 +1,5 @@
 -- The parts of operands that acts take.
-use Rattle.std.specs.Prelude.{◌≡◌, Option, Some, None}
+use Rattle.std.specs.Prelude.{◌≡◌, ℕ, Option, Some, None}
 use Rattle.insn.specs.declared.meaning.Parts.{Parts}
 use Rattle.insn.specs.Instructions.{Operands}
 use Rattle.insn.specs.declared.operation.Meaning.{Meaning}
@@ -19,6 +19,9 @@ pub record AreParts (p : Parts) (x : Operands) : Type 0 where
 abbrev pub IsActBy : {P : Type 0} → (Operands → P) → Meaning → P → Option acts.Act → Type 0
 IsActBy part m p (Some a) = (x : Operands) → p ≡ part x → act_view a ≡ act_of m x
 IsActBy part m p None = Unit {0}
+
+abbrev pub index_and_byte : Operands → ℕ × ℕ
+index_and_byte x = (index_of x, byte_of x)
 
 -- The act of this meaning with any operands.
 abbrev pub IsActAlways : Meaning → Option acts.Act → Type 0

@@ -1,11 +1,12 @@
-use Rattle.std.proofs.Common.{rules, ◌∙◌, refl, sym, ap}
+use Rattle.std.proofs.Common.{rules, ℕ, get_or, ◌∙◌, refl, sym, ap}
 use Rattle.std.specs.Int.{cast_signed, w8, w16, w32}
 use Rattle.std.proofs.lemmas.Int.{to_z-of_z}
 use Rattle.byteorder.specs.Endian.{big_number}
 use Rattle.insn.specs.Instructions.{operands_at, index, constant, local, branch, byte, short}
 use Rattle.insn.specs.Meanings.{index_of, local_of, offset_of}
-use Rattle.insn.proofs.Plain.{has_number, byte_there, two_there, by_part, by_any}
-use Rattle.insn.proofs.reading.act_with_operand.Goals as goal
+use Rattle.insn.specs.private.Parts.{index_and_byte}
+use Rattle.insn.proofs.Plain.{has_number, byte_there, two_there, by_part, by_any, increment_there, interface_there}
+use Rattle.insn.proofs.reading.act_with_operands.Goals as goal
 
 pub returns-in_ok-act_of_index-in-Index : goal.returns-in_ok-act_of_index-in-Index
 unfolding operands_at
@@ -55,3 +56,16 @@ returns-in_ok-act_of_number-in-Short c =
     has_number 2 (λ j. short (cast_signed w16 j)) c.args.bytes.now c.args.form c.args.meaning c.in_ok-act_of_number-in-Short.field-0 c.if-bytes-ge3.true
     (λ at. ap (operands_at at) c.in-Short.is) (λ j o. refl)
     (by_any c.args.meaning c.act_of_number-in-Short.result c.in_ok-act_of_number-in-Short.field-0 _ c.act_of_number-in-Short.ensures c.in_ok-act_of_number-in-Short.was)
+
+pub returns-in_ok-act_of_local-in-Increment : goal.returns-in_ok-act_of_local-in-Increment
+returns-in_ok-act_of_local-in-Increment c =
+    increment_there c.args.bytes.now c.args.form c.args.meaning c.in_ok-act_of_local-in-Increment.field-0 c.in-Increment.is c.in-len3-up-bytes-2.len_at_least
+    (λ x same. by_part local_of c.args.meaning c.from-in-Increment.result c.act_of_local-in-Increment.result c.in_ok-act_of_local-in-Increment.field-0 x c.act_of_local-in-Increment.ensures
+    c.in_ok-act_of_local-in-Increment.was (c.from-in-Increment.ensures ∙ same))
+
+pub returns-in_ok-act_of_count-in-InvokeInterface :
+    goal.returns-in_ok-act_of_count-in-InvokeInterface
+returns-in_ok-act_of_count-in-InvokeInterface c =
+    interface_there c.args.bytes.now c.args.form c.args.meaning c.in_ok-act_of_count-in-InvokeInterface.field-0 c.in-InvokeInterface.is c.in-len5-up.len_at_least c.if-zero-ne0.false
+    (λ x i n. by_part index_and_byte c.args.meaning (c.read_u16-index-in-InvokeInterface.result, _) c.act_of_count.result c.in_ok-act_of_count-in-InvokeInterface.field-0 x c.act_of_count.ensures
+    c.in_ok-act_of_count-in-InvokeInterface.was (ap (λ (k : ℕ). (k, get_or c.args.bytes.now 3 0)) (c.read_u16-index-in-InvokeInterface.ensures ∙ i) ∙ ap (λ (k : ℕ). (index_of x, k)) n))
