@@ -1,4 +1,4 @@
-use Rattle.std.proofs.Common.{sym, ◌∙◌}
+use Rattle.std.proofs.Common.{sym}
 use Rattle.insn.proofs.Rows.{no_opcode, row_of_number}
 use Rattle.insn.proofs.table.row_at.Goals as goal
 
