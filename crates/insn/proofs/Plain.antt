@@ -123,7 +123,7 @@ operands_in _ bytes e = absurd (omega (arith, e))
 
 -- ---- bytes that were taken
 
--- the bytes in front begin with the first
+-- bytes in front begin with the first of all
 opcode_first : (k : ℕ) (rest : List ℕ) (d : ℕ) → 0 < k → 1 ≤ length rest → take k rest ≡ get_or rest 0 d ∷ drop 1 (take k rest)
 opcode_first zero rest d some long = absurd (omega (arith, some))
 opcode_first (suc k) [] d some long = absurd (omega (arith, long))
@@ -138,7 +138,7 @@ pub two_there : (rest : List ℕ) (d : ℕ) → 3 ≤ length rest → drop 1 (ta
 two_there (n ∷ a ∷ b ∷ rest) d long = refl
 two_there _ d long = absurd (omega (arith, long))
 
--- what taking a part of so many bytes says
+-- a part of so many bytes that was taken
 part_took : {X : Type 0} (view : X → List ℕ) (k : ℕ) (old new : Place) (b : X) → reads (part k done) old.at old.rest ≡ Ok (view b, new)
     → (k ≤ length old.rest) × Took (take k old.rest) old new
 part_took view k old new b e =
@@ -151,7 +151,7 @@ part_took view k old new b e =
       },
     )
 
--- a part that was taken, where its refusal answers nothing
+-- a part that was read, where its refusal answers nothing
 part_ok : {X : Type 0} (view : X → List ℕ) (k : ℕ) (old new : Place) (answer : Result X ReadFault) (b : X) → Reads (part k done) view old new answer → Some b ≡ result_ok answer
     → reads (part k done) old.at old.rest ≡ Ok (view b, new)
 part_ok view k old new (Ok x) b read e = let same : b ≡ x = cc in rw same read

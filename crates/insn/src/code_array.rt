@@ -5,7 +5,7 @@ use crate::fault::CodeFault;
 use crate::instruction::{Insn, Operands};
 use crate::meaning::{act, made_index};
 use crate::operation::Act;
-use crate::reading::{read_insn, skip_plain, take_alone, take_new, take_plain_act};
+use crate::reading::{read_insn, skip_plain, take_alone, take_common_act, take_new};
 use layout::Cursor;
 use std::marker::Model;
 
@@ -66,7 +66,7 @@ impl<'a> Instructions<'a> {
         requires { HasInstruction self.old }
         ensures { StepsBy act_located by_act self.old (Some (Ok (self.old.at, result))) self.new }
     {
-        match take_plain_act(&mut self.cursor) {
+        match take_common_act(&mut self.cursor) {
             Some(act) => act,
             None => self.act_with_operands(),
         }

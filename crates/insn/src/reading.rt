@@ -410,7 +410,7 @@ fn act_with_operands<'a>(bytes: &[u8], form: Form, meaning: Meaning) -> Option<(
 /// Goes behind the instruction in front and answers its act, where it has no operands or those of a common form;
 /// otherwise, and where it is unsupported, the cursor stays where it is.
 #[inline(always)]
-pub(crate) fn take_plain_act<'a>(cursor: &mut Cursor<'_>) -> Option<Act<'a>>
+pub(crate) fn take_common_act<'a>(cursor: &mut Cursor<'_>) -> Option<Act<'a>>
     ensures { TakesAct cursor.old cursor.new result }
 {
     let [number, ..] = cursor.rest() else {

@@ -15,7 +15,7 @@ pub record AreParts (p : Parts) (x : Operands) : Type 0 where
   pub offset : p.offset ≡ offset_of x
   pub targets : targets_view p.targets ≡ offsets_of x
 
--- The act of this meaning with any operands of which one part is this.
+-- The act of this meaning with any operands of which one part is this. Nothing is said where there is no act.
 abbrev pub IsActBy : {P : Type 0} → (Operands → P) → Meaning → P → Option acts.Act → Type 0
 IsActBy part m p (Some a) = (x : Operands) → p ≡ part x → act_view a ≡ act_of m x
 IsActBy part m p None = Unit {0}
@@ -23,7 +23,7 @@ IsActBy part m p None = Unit {0}
 abbrev pub index_and_byte : Operands → ℕ × ℕ
 index_and_byte x = (index_of x, byte_of x)
 
--- The act of this meaning with any operands.
+-- The act of this meaning with any operands. Nothing is said where there is no act.
 abbrev pub IsActAlways : Meaning → Option acts.Act → Type 0
 IsActAlways m (Some a) = (x : Operands) → act_view a ≡ act_of m x
 IsActAlways m None = Unit {0}

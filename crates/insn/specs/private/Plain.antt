@@ -1,5 +1,4 @@
--- Plain instructions, which are taken by what the table has of their opcodes: as long as the opcode says, and an
--- instruction whatever their operands' bytes are.
+-- Plain instructions: any bytes behind their opcode, as many as its form has, are their operands.
 use Rattle.std.specs.Prelude.{◌≡◌, ℕ, ◌<◌, ◌≤◌, Bool, true, false, List, length, take, drop, Option, Some, None, Ok}
 use Rattle.layout.specs.Format.{Spells}
 use Rattle.layout.specs.Place.{Place, Took}
@@ -34,7 +33,7 @@ form_length forms.TableSwitch = 0
 form_length forms.LookupSwitch = 0
 form_length forms.Wide = 0
 
--- the length of an instruction of this opcode that is skipped by it alone; 0 where none is
+-- how many bytes are skipped where an instruction of this opcode is plain and makes no object; otherwise 0
 abbrev pub plain_length : Option Opcode → ℕ
 plain_length None = 0
 plain_length (Some New) = 0
@@ -60,7 +59,7 @@ TakesAct old new (Some a) = (i : Instruction) × (act_view a ≡ act i) × (firs
     × SpellsInstruction old.at first i × Took first old new
 TakesAct old new None = new ≡ old
 
--- Behind the first of these bytes stand operands of this form, with which an instruction of this meaning has this act
+-- Operands of this form stand behind the first of these bytes, with which an instruction of this meaning has this act
 -- and so many bytes.
 pub record HasAct (bytes : List ℕ) (f : Form) (m : Meaning) (a : Act) (n : ℕ) : Type 0 where
   pub operands : Operands

@@ -1,5 +1,5 @@
 use Rattle.insn.proofs.Plain.{alone_taken, act_taken}
-use Rattle.insn.proofs.reading.take_plain_act.Goals as goal
+use Rattle.insn.proofs.reading.take_common_act.Goals as goal
 
 pub returns-in-Some : goal.returns-in-Some
 returns-in-Some c =
