@@ -1,5 +1,5 @@
 -- The marks of code, instruction by instruction.
-use Rattle.std.proofs.Common.{◌≡◌, ◌≢◌, ◌∙◌, ◌⊎◌, inl, inr, ℕ, ◌+◌, ◌-◌, ◌<◌, ◌≤◌, Bool, true, false, eqb, List, [], ◌∷◌, ◌++◌, length, drop, get_or, set, Option, Some, None, if◌then◌else◌, Result, Ok, Err, refl, sym, ap, subst, arith}
+use Rattle.std.proofs.Common.{◌≡◌, ◌≢◌, ◌∙◌, ◌⊎◌, inl, inr, ℕ, ◌+◌, ◌-◌, ◌<◌, ◌≤◌, Bool, true, false, eqb, List, [], ◌∷◌, ◌++◌, length, drop, get_or, set, Option, Some, None, if◌then◌else◌, Result, Ok, refl, sym, ap, subst, arith}
 use Rattle.std.proofs.lemmas.List.{map-append, drop_more, length-append, length-set, get_or-set_same, get_or-set_other}
 use Rattle.std.proofs.lemmas.Bool.{cases_eq}
 use Rattle.std.proofs.lemmas.Bool.Decides.{nat_tests}
@@ -7,7 +7,7 @@ use Rattle.layout.specs.Place.{Place}
 use Rattle.insn.specs.declared.fault.CodeFault.{CodeFault}
 use Rattle.insn.specs.declared.instruction.Insn.{Insn}
 use Rattle.insn.specs.Instructions.{Instruction}
-use Rattle.insn.specs.Code.{SpellsCode, FaultyCode, StepsThrough, StepsBy}
+use Rattle.insn.specs.Code.{StepsThrough, StepsBy}
 use Rattle.insn.specs.Meanings.{Act, New, act, made_index}
 use Rattle.insn.specs.Offsets.{acts, at_offset, by_made}
 use Rattle.insn.specs.Readings.{or_none, instructions_in}
