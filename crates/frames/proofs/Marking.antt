@@ -1,5 +1,5 @@
 -- The marks of code, instruction by instruction.
-use Rattle.std.proofs.Common.{◌≡◌, ◌≢◌, ◌∙◌, ◌⊎◌, inl, inr, ℕ, ◌+◌, ◌-◌, ◌<◌, ◌≤◌, Bool, true, false, eqb, List, [], ◌∷◌, ◌++◌, length, drop, get_or, set, Option, Some, None, if◌then◌else◌, Result, Ok, Err, refl, sym, ap, subst, arith}
+use Rattle.std.proofs.Common.{◌≡◌, ◌≢◌, ◌∙◌, ◌⊎◌, inl, inr, ℕ, ◌+◌, ◌-◌, ◌<◌, ◌≤◌, Bool, true, false, eqb, List, [], ◌∷◌, ◌++◌, length, drop, get_or, set, Option, Some, None, if◌then◌else◌, Result, Ok, refl, sym, ap, subst, arith}
 use Rattle.std.proofs.lemmas.List.{map-append, drop_more, length-append, length-set, get_or-set_same, get_or-set_other}
 use Rattle.std.proofs.lemmas.Bool.{cases_eq}
 use Rattle.std.proofs.lemmas.Bool.Decides.{nat_tests}
@@ -7,12 +7,12 @@ use Rattle.layout.specs.Place.{Place}
 use Rattle.insn.specs.declared.fault.CodeFault.{CodeFault}
 use Rattle.insn.specs.declared.instruction.Insn.{Insn}
 use Rattle.insn.specs.Instructions.{Instruction}
-use Rattle.insn.specs.Code.{SpellsCode, FaultyCode, StepsThrough, StepsBy}
+use Rattle.insn.specs.Code.{StepsThrough, StepsBy}
 use Rattle.insn.specs.Meanings.{Act, New, act, made_index}
 use Rattle.insn.specs.Offsets.{acts, at_offset, by_made}
 use Rattle.insn.specs.Readings.{or_none, instructions_in}
 use Rattle.insn.specs.Views.{view, views}
-use Rattle.insn.proofs.CodeLaws.{SoFar, told_step, told_fault, code_step, code_whole, shorter, has_bytes}
+use Rattle.insn.proofs.CodeLaws.{SoFar, told_step, code_step, code_whole, shorter, has_bytes}
 use Rattle.insn.proofs.Readings.{only_reading}
 use Rattle.frames.specs.declared.code_starts.StartKind.{StartKind}
 use Rattle.frames.specs.declared.code_starts.StartKind.TheVariants.{Inside}
@@ -53,16 +53,6 @@ pub record Marking (code : List ℕ) (p : Place) (marks : List StartKind) : Type
 
 pub clear_marked : (marks : List StartKind) → AreClear marks → AreMarks marks []
 clear_marked marks h k = subst (λ (x : StartKind). IsMark x None) (sym (h k)) (record { start = refl; new = refl; index = refl })
-
-pub marking_first : (code : List ℕ) (p : Place) (marks : List StartKind) → p ≡ record { at = 0; rest = code } → AreClear marks → length marks ≡ length code → Marking code p marks
-marking_first code p marks e h long =
-    subst (λ (q : Place). Marking code q marks) (sym e) (record {
-      done = [];
-      so_far = ([], refl, refl, refl);
-      right = clear_marked marks h;
-      beyond = λ k le. refl;
-      long = long;
-    })
 
 module _ (code : List ℕ) (old new : Place) (marks : List StartKind) (step : Result (ℕ × Option ℕ) CodeFault) (x : ℕ × Option ℕ) (now : Marking code old marks) (stepped : StepsBy (λ (y : ℕ × Option ℕ). y) by_made old (Some step) new) (is : step ≡ Ok x) where
   told : (i : Instruction) × (x ≡ by_made (old.at, i)) × StepsThrough (λ (y : ℕ × Instruction). y) old (Some (Ok (old.at, i))) new
@@ -135,12 +125,6 @@ pub marking_last : (code : List ℕ) (p : Place) (marks : List StartKind) → Ma
 marking_last code p marks now end =
     let whole = code_whole code now.done p now.so_far (ap (λ (l : List ℕ). length l) end) in
     subst (λ (xs : List (ℕ × Instruction)). AreMarks marks (acts xs)) (sym (ap or_none (only_reading code (Ok now.done) whole))) now.right
-
-pub marking_spells : (code : List ℕ) (p : Place) (marks : List StartKind) → Marking code p marks → p.rest ≡ [] → (xs : List (ℕ × Instruction)) × SpellsCode 0 code xs
-marking_spells code p marks now end = (now.done, code_whole code now.done p now.so_far (ap (λ (l : List ℕ). length l) end))
-
-pub marking_fault : (code : List ℕ) (old new : Place) (marks : List StartKind) (step : Result (ℕ × Option ℕ) CodeFault) (e : CodeFault) → Marking code old marks → StepsBy (λ (y : ℕ × Option ℕ). y) by_made old (Some step) new → step ≡ Err e → FaultyCode code e
-marking_fault code old new marks step e now stepped is = told_fault (λ (y : ℕ × Option ℕ). y) by_made code now.done old new step e now.so_far stepped is
 
 -- ---- a list from its end
 

@@ -103,11 +103,18 @@ fn mark_starts(code: &[u8], marks: &mut [StartKind]) -> Result<(), CodeFault>
     ensures fault { IfErr result (λ e. FaultyCode code.now e) }
 {
     let mut instructions = Instructions::new(code);
-    while let Some(step) = instructions.next_start() {
+    loop {
+        let at = instructions.at();
+        if instructions.skip_plain() {
+            marks[at] = mark_of(None);
+            continue;
+        }
+        let Some(step) = instructions.next_start() else {
+            return Ok(());
+        };
         let (at, made) = step?;
         marks[at] = mark_of(made);
     }
-    Ok(())
 }
 
 // Marks where instructions of a list begin, the last first, so that of several at one offset the first is marked.

@@ -135,11 +135,6 @@ told_step view told old new step x s is =
     let (i, same, first, spells, took) = subst (λ (r : Result _ CodeFault). StepsBy view told old (Some r) new) is s in
     (i, same, (refl, first, spells, took))
 
-pub told_fault : {X Y : Type 0} (view : X → Y) (told : ℕ × Instruction → Y) (bytes : List ℕ) (xs : List (ℕ × Instruction)) (old new : Place) (step : Result X CodeFault) (e : CodeFault)
-    → SoFar bytes old xs → StepsBy view told old (Some step) new → step ≡ Err e → FaultyCode bytes e
-told_fault view told bytes xs old new (Ok x) e so s is = absurd cc
-told_fault view told bytes xs old new (Err f) e so s is = let same : f ≡ e = cc in subst (λ (g : CodeFault). FaultyCode bytes g) same (code_fault bytes xs old f so s.0 s.1)
-
 pub unless_memory : {P : Type 0} (e : CodeFault) → P → UnlessMemory e P
 unless_memory OutOfMemory p = tt
 unless_memory e p = p

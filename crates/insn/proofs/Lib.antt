@@ -1,4 +1,3 @@
-pub mod Alone
 pub mod ByUnits
 pub mod CodeLaws
 pub mod CodeSpellings
@@ -7,6 +6,7 @@ pub mod Kept
 pub mod Numbers
 pub mod OperandLaws
 pub mod Places
+pub mod Plain
 pub mod Readings
 pub mod Rows
 pub mod Spelled

@@ -1,11 +1,12 @@
 -- The program's tables: the row of an opcode stands at its number, that of an operator at its place.
-use Rattle.std.proofs.Common.{◌≡◌, ℕ, ◌<◌, ◌≤◌, List, length, get_or, map, Option, Some, None, refl, sym, ap, ◌∙◌}
-use Rattle.std.specs.Prelude.{slice_get, slice_index_or, option_map, unwrap_or}
+use Rattle.std.proofs.Common.{◌≡◌, ℕ, zero, suc, ◌<◌, ◌≤◌, List, [], ◌∷◌, ◌++◌, length, get_or, map, replicate, Option, Some, None, refl, sym, ap, ◌∙◌}
+use Rattle.std.specs.Prelude.{slice_get, slice_index, slice_index_or, option_map, unwrap_or}
 use Rattle.std.proofs.lemmas.List.{length-map}
 use Rattle.std.proofs.lemmas.Option.{slice_get-map, slice_get_past, slice_get_read, slice_get_within, unwrap_or-slice_get}
 use Rattle.insn.specs.declared.opcode.Opcode.{Opcode}
 use Rattle.insn.specs.Opcodes.{row, number, opcodes, opcode_of}
-use Rattle.insn.specs.private.Table.{TableRow, table_row, table_opcode}
+use Rattle.insn.specs.private.Plain.{plain_length}
+use Rattle.insn.specs.private.Table.{TableRow, table_row, table_opcode, table_act, act_alone, IsRowOf}
 use Rattle.insn.proofs.Numbers.{by_number}
 
 some_of : {A B : Type 0} (f : A → B) (x : Option A) (d : A) (y : B) → option_map f x ≡ Some y → f (unwrap_or x d) ≡ y
@@ -39,3 +40,27 @@ opcode_there rows n r same lt is = sym (ap (option_map table_opcode) (slice_get_
 
 pub no_opcode : (rows : List TableRow) (n : ℕ) → map table_opcode rows ≡ opcodes → length rows ≤ n → None ≡ opcode_of n
 no_opcode rows n same le = sym (ap (option_map table_opcode) (slice_get_past rows n le)) ∙ opcode_at rows n same
+
+-- the row at a number is that of the opcode which has it
+pub row_of_number : (rows : List TableRow) (n : ℕ) (r : TableRow) → map table_row rows ≡ map row opcodes → map table_opcode rows ≡ opcodes
+    → map table_act rows ≡ map act_alone opcodes → n < length rows → r ≡ get_or rows n r → IsRowOf n r
+row_of_number rows n r all order acts lt is =
+    let named : opcode_of n ≡ Some (table_opcode r) = sym (opcode_there rows n r order lt is) in
+    record {
+      opcode = named;
+      row = ap table_row is ∙ row_there table_row row opcodes (table_opcode r) n rows r all named;
+      act = ap table_act is ∙ row_there table_act act_alone opcodes (table_opcode r) n rows r acts named;
+    }
+
+-- ---- lengths
+
+zero_there : (k n : ℕ) → slice_index (replicate k 0) n ≡ 0
+zero_there zero n = refl
+zero_there (suc k) zero = refl
+zero_there (suc k) (suc n) = zero_there k n
+
+-- what stands at a number, behind which zeros stand
+pub length_there : (os : List Opcode) (k n : ℕ) → slice_index (map (λ o. plain_length (Some o)) os ++ replicate k 0) n ≡ plain_length (slice_get os n)
+length_there [] k n = zero_there k n
+length_there (o ∷ os) k zero = refl
+length_there (o ∷ os) k (suc n) = length_there os k n

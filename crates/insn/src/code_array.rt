@@ -3,9 +3,9 @@ ghost use Rattle.std.specs.Prelude.{◌≡◌};
 
 use crate::fault::CodeFault;
 use crate::instruction::{Insn, Operands};
-use crate::meaning::{act, act_alone, act_by_parts, made_by_parts, made_index};
+use crate::meaning::{act, made_index};
 use crate::operation::Act;
-use crate::reading::{read_insn, take_alone, take_parts};
+use crate::reading::{read_insn, skip_plain, take_alone, take_common_act, take_new};
 use layout::Cursor;
 use std::marker::Model;
 
@@ -31,7 +31,7 @@ impl<'a> Model for Instructions<'a> {
 }
 
 impl<'a> Instructions<'a> {
-    ghost use Rattle.std.specs.Prelude.{Some, Ok, length, nat_eq};
+    ghost use Rattle.std.specs.Prelude.{true, false, Some, None, Ok, length, nat_eq};
     ghost use Rattle.insn.specs.Code.{StepsBy, StepsThrough, HasInstruction};
     ghost use Rattle.insn.specs.Offsets.{by_act, by_made};
     ghost use Rattle.insn.specs.Views.{act_located, located};
@@ -61,15 +61,13 @@ impl<'a> Instructions<'a> {
 
     /// Goes behind the instruction in front and tells what it means, as [`act`](crate::act) does. One has to stand
     /// there.
+    #[inline(always)]
     pub fn take_act(&mut self) -> Act<'a>
         requires { HasInstruction self.old }
         ensures { StepsBy act_located by_act self.old (Some (Ok (self.old.at, result))) self.new }
     {
-        if let Some(opcode) = take_alone(&mut self.cursor) {
-            return act_alone(opcode);
-        }
-        match take_parts(&mut self.cursor) {
-            Some((opcode, parts)) => act_by_parts(opcode, &parts),
+        match take_common_act(&mut self.cursor) {
+            Some(act) => act,
             None => self.act_with_operands(),
         }
     }
@@ -85,20 +83,30 @@ impl<'a> Instructions<'a> {
         }
     }
 
+    /// Goes behind the instruction in front, where any bytes are its operands and it is no `new`, and tells that it did;
+    /// otherwise it stays where it is, and [`next_start`](Instructions::next_start) goes on.
+    #[inline(always)]
+    pub fn skip_plain(&mut self) -> bool
+        ensures skipped { result ≡ true → StepsBy (λ x. x) by_made self.old (Some (Ok (self.old.at, None))) self.new }
+        ensures stayed { result ≡ false → self.new ≡ self.old }
+    {
+        skip_plain(&mut self.cursor)
+    }
+
     /// Goes on as `next` does, and tells of an instruction where it begins and, if it is a `new`, the index of the
     /// class of which it makes an object (JVMS 6.5, new).
-    #[tactic(auto, using(crate::proofs::Alone::makes_none))]
+    #[inline(never)]
     pub fn next_start(&mut self) -> Option<Result<(usize, Option<u16>), CodeFault>>
         ensures { StepsBy (λ x. x) by_made self.old result self.new }
     {
+        if self.is_at_end() {
+            return None;
+        }
         let at = self.cursor.at();
-        if take_alone(&mut self.cursor).is_some() {
+        if self.skip_plain() {
             return Some(Ok((at, None)));
         }
-        match take_parts(&mut self.cursor) {
-            Some((opcode, parts)) => Some(Ok((at, made_by_parts(opcode, &parts)))),
-            None => self.start_with_operands(),
-        }
+        self.start_with_operands()
     }
 
     /// Goes on as `next` does, which takes an instruction without operands itself.
@@ -123,6 +131,10 @@ impl<'a> Instructions<'a> {
     fn start_with_operands(&mut self) -> Option<Result<(usize, Option<u16>), CodeFault>>
         ensures { StepsBy (λ x. x) by_made self.old result self.new }
     {
+        let at = self.cursor.at();
+        if let Some(index) = take_new(&mut self.cursor) {
+            return Some(Ok((at, Some(index))));
+        }
         match self.next_with_operands()? {
             Ok((at, insn)) => Some(Ok((at, made_index(&insn)))),
             Err(fault) => Some(Err(fault)),

@@ -1,10 +1,8 @@
 //! The meaning of an instruction, from its opcode and its operands. No call takes memory.
 ghost use Rattle.std.specs.Prelude.{◌≡◌};
 ghost use Rattle.insn.specs.Code.{modified};
-ghost use Rattle.insn.specs.Instructions.{nothing};
-ghost use Rattle.insn.specs.Meanings.{act, made_index, element_of};
-ghost use Rattle.insn.specs.private.Parts.{AreParts, IsActOf};
-ghost use Rattle.insn.specs.private.Taken.{Each};
+ghost use Rattle.insn.specs.Meanings.{act, made_index, element_of, index_of, local_of, offset_of};
+ghost use Rattle.insn.specs.private.Parts.{AreParts, IsActAlways, IsActBy, IsActOf, index_and_byte};
 ghost use Rattle.insn.specs.Views.{view, operands_view, act_view};
 
 use crate::instruction::{Insn, Operands, modified};
@@ -22,20 +20,6 @@ pub fn act<'a>(insn: &Insn<'a>) -> Act<'a>
     act_of(modified(insn).meaning(), &parts_of(insn.operands))
 }
 
-/// The meaning of an instruction of this opcode that has no operands.
-pub(crate) fn act_alone<'a>(opcode: Opcode) -> Act<'a>
-    ensures { act_view result ≡ act (record { opcode = opcode; operands = nothing }) }
-{
-    act_of(opcode.meaning(), &Parts::none())
-}
-
-/// The meaning of an instruction of this opcode whose operands have these parts.
-pub(crate) fn act_by_parts<'a>(opcode: Opcode, parts: &Parts<'a>) -> Act<'a>
-    ensures { Each opcode parts.now (λ i. act_view result ≡ act i) }
-{
-    act_of(opcode.meaning(), parts)
-}
-
 /// The index of the class of which an instruction makes an object, where it is a `new` (JVMS 6.5, new). Takes no
 /// memory.
 pub fn made_index(insn: &Insn<'_>) -> Option<u16>
@@ -47,18 +31,84 @@ pub fn made_index(insn: &Insn<'_>) -> Option<u16>
     }
 }
 
-/// The index of the class of which an instruction of this opcode and these parts makes an object, where it is a `new`.
-pub(crate) fn made_by_parts(opcode: Opcode, parts: &Parts<'_>) -> Option<u16>
-    ensures { Each opcode parts.now (λ i. result ≡ made_index (act i)) }
+/// The act of this meaning with an index alone as operand; none where no such instruction has this meaning.
+#[inline(always)]
+pub(crate) fn act_of_index<'a>(meaning: Meaning, index: u16) -> Option<Act<'a>>
+    ensures { IsActBy index_of meaning index result }
 {
-    match opcode {
-        Opcode::New => Some(parts.index),
+    Some(match meaning {
+        Meaning::LoadConstant => Act::LoadConstant { index },
+        Meaning::LoadWideConstant => Act::LoadWideConstant { index },
+        Meaning::GetStatic => Act::GetStatic { index },
+        Meaning::PutStatic => Act::PutStatic { index },
+        Meaning::GetField => Act::GetField { index },
+        Meaning::PutField => Act::PutField { index },
+        Meaning::InvokeVirtual => Act::InvokeVirtual { index },
+        Meaning::InvokeSpecial => Act::InvokeSpecial { index },
+        Meaning::InvokeStatic => Act::InvokeStatic { index },
+        Meaning::New => Act::New { index },
+        Meaning::NewReferenceArray => Act::NewReferenceArray { index },
+        Meaning::CheckCast => Act::CheckCast { index },
+        Meaning::InstanceOf => Act::InstanceOf { index },
+        _ => return None,
+    })
+}
+
+/// The act of this meaning with a local variable alone as operand, or with what is added to it; none where no such
+/// instruction has this meaning, or it is unsupported.
+#[inline(always)]
+pub(crate) fn act_of_local<'a>(meaning: Meaning, local: u16) -> Option<Act<'a>>
+    ensures { IsActBy local_of meaning local result }
+{
+    Some(match meaning {
+        Meaning::Load(kind) => Act::Load { kind, local },
+        Meaning::LoadReference => Act::LoadReference { local },
+        Meaning::Store(kind) => Act::Store { kind, local },
+        Meaning::StoreReference => Act::StoreReference { local },
+        Meaning::Increment => Act::Increment { local },
+        _ => return None,
+    })
+}
+
+/// The act of this meaning with an offset alone as operand; none where no such instruction has this meaning, or it is
+/// unsupported.
+#[inline(always)]
+pub(crate) fn act_of_offset<'a>(meaning: Meaning, offset: i32) -> Option<Act<'a>>
+    ensures { IsActBy offset_of meaning offset result }
+{
+    Some(match meaning {
+        Meaning::IfInt => Act::IfInt { offset },
+        Meaning::IfInts => Act::IfInts { offset },
+        Meaning::IfReferences => Act::IfReferences { offset },
+        Meaning::IfNull => Act::IfNull { offset },
+        Meaning::Goto => Act::Goto { offset },
+        _ => return None,
+    })
+}
+
+/// The act of this meaning with an index and a count as operands; none where no such instruction has this meaning.
+#[inline(always)]
+pub(crate) fn act_of_count<'a>(meaning: Meaning, index: u16, count: u8) -> Option<Act<'a>>
+    ensures { IsActBy index_and_byte meaning (index, count) result }
+{
+    match meaning {
+        Meaning::InvokeInterface => Some(Act::InvokeInterface { index, count }),
+        _ => None,
+    }
+}
+
+/// The act of this meaning with a number alone as operand; none where no such instruction has this meaning.
+#[inline(always)]
+pub(crate) fn act_of_number<'a>(meaning: Meaning) -> Option<Act<'a>>
+    ensures { IsActAlways meaning result }
+{
+    match meaning {
+        Meaning::Constant(kind) => Some(Act::Constant(kind)),
         _ => None,
     }
 }
 
 /// The act of this meaning with operands of these parts.
-#[inline(always)]
 fn act_of<'a>(meaning: Meaning, parts: &Parts<'a>) -> Act<'a>
     ensures { IsActOf meaning parts.now (act_view result) }
 {
@@ -123,7 +173,7 @@ fn act_of<'a>(meaning: Meaning, parts: &Parts<'a>) -> Act<'a>
 
 /// The parts of operands that acts take; a part that an instruction does not have counts as 0.
 #[derive(Clone, Copy)]
-pub(crate) struct Parts<'a> {
+struct Parts<'a> {
     /// The number of a local variable.
     local: u16,
     /// An index into the constant pool.
@@ -139,7 +189,6 @@ pub(crate) struct Parts<'a> {
 impl<'a> Parts<'a> {
     ghost use Rattle.insn.specs.Instructions as instructions;
     ghost use Rattle.insn.specs.private.Parts.{AreParts};
-    ghost use Rattle.insn.specs.private.Taken.{ArePartsOf};
 
     /// The parts of an instruction without operands.
     fn none() -> Parts<'a>
@@ -151,46 +200,6 @@ impl<'a> Parts<'a> {
             byte: 0,
             offset: 0,
             targets: Targets::Offsets(&[]),
-        }
-    }
-
-    /// The parts of an instruction with an index of two bytes.
-    pub(crate) fn of_index(index: u16) -> Parts<'a>
-        ensures { ArePartsOf result (instructions.index index) }
-    {
-        Parts {
-            index,
-            ..Parts::none()
-        }
-    }
-
-    /// The parts of an instruction with an index of one byte.
-    pub(crate) fn of_constant(index: u8) -> Parts<'a>
-        ensures { ArePartsOf result (instructions.constant index) }
-    {
-        Parts {
-            index: u16::from(index),
-            ..Parts::none()
-        }
-    }
-
-    /// The parts of an instruction with a local variable of one byte.
-    pub(crate) fn of_local(local: u8) -> Parts<'a>
-        ensures { ArePartsOf result (instructions.local local) }
-    {
-        Parts {
-            local: u16::from(local),
-            ..Parts::none()
-        }
-    }
-
-    /// The parts of a branch of two bytes.
-    pub(crate) fn of_offset(offset: i16) -> Parts<'a>
-        ensures { ArePartsOf result (instructions.branch offset) }
-    {
-        Parts {
-            offset: i32::from(offset),
-            ..Parts::none()
         }
     }
 }

@@ -1,17 +1,19 @@
 //! Reading one instruction. No call takes memory.
-ghost use Rattle.std.specs.Prelude.{◌≡◌, ◌≤◌, ◌-◌, Some, length, take};
+ghost use Rattle.std.specs.Prelude.{◌≡◌, ◌≤◌, ◌-◌, Some, IfSome, length, take};
 ghost use Rattle.insn.specs.Code.{ReadsInstruction, TakesAlone};
 ghost use Rattle.insn.specs.Faults.{Decodes, or_cut};
 ghost use Rattle.insn.specs.Instructions.{operands_at, behind_opcode, instruction_at, wide_at, widened, widened_opcode, invoke_interface_at, invoke_dynamic_at, table_switch_at, table_behind, lookup_switch_at, pairs_behind, keys, rising, follows};
-ghost use Rattle.insn.specs.private.Taken.{ReadsParts, TakesParts};
+ghost use Rattle.insn.specs.private.Plain.{SkipsPlain, TakesNew, TakesAct, HasAct};
 ghost use Rattle.insn.specs.Views.{operands_view, table_switch_view, lookup_switch_view, view};
 
 use crate::fault::CodeFault;
 use crate::instruction::{Insn, Operands};
-use crate::meaning::Parts;
+use crate::meaning::{act_of_count, act_of_index, act_of_local, act_of_number, act_of_offset};
 use crate::opcode::Opcode;
+use crate::operation::{Act, Meaning};
 use crate::switch::{LookupSwitch, Pairs, TableSwitch};
-use crate::table::Form;
+use crate::table::{Form, plain_length, row_at};
+use byteorder::{BigEndian, ByteOrder};
 use layout::{Cursor, ReadFault};
 
 /// A part of the instruction at `at`, which is cut where the part is not whole.
@@ -320,32 +322,106 @@ pub(crate) fn take_alone(cursor: &mut Cursor<'_>) -> Option<Opcode>
     Some(opcode)
 }
 
-/// The parts of the operands behind an opcode of this form, where they are one number of at most two bytes.
+/// Goes behind the instruction in front, where any bytes are its operands and it is no `new`; otherwise the cursor stays
+/// where it is.
 #[inline(always)]
-fn parts_behind<'a>(cursor: &mut Cursor<'_>, form: Form) -> Option<Parts<'a>>
-    ensures { ReadsParts form cursor.old cursor.new result }
+pub(crate) fn skip_plain(cursor: &mut Cursor<'_>) -> bool
+    ensures { SkipsPlain cursor.old cursor.new result }
+{
+    let [number, ..] = cursor.rest() else {
+        return false;
+    };
+    let length = plain_length(*number);
+    length > 0 && cursor.part(length).is_ok()
+}
+
+/// Goes behind the instruction in front and answers its index, where it is a `new`; otherwise the cursor stays where it
+/// is.
+#[inline(always)]
+pub(crate) fn take_new(cursor: &mut Cursor<'_>) -> Option<u16>
+    ensures { TakesNew cursor.old cursor.new result }
+{
+    let [number, high, low, ..] = cursor.rest() else {
+        return None;
+    };
+    if *number != Opcode::New.number() {
+        return None;
+    }
+    let index = BigEndian::read_u16(&[*high, *low]);
+    cursor.part(3).ok()?;
+    Some(index)
+}
+
+/// The act of the instruction in front of these bytes, of this form and meaning, and how many bytes it has, where its
+/// operands have at most four bytes and are of a common form; otherwise none.
+#[inline(always)]
+fn act_with_operands<'a>(bytes: &[u8], form: Form, meaning: Meaning) -> Option<(Act<'a>, usize)>
+    ensures { IfSome result (λ t. HasAct bytes.now form meaning t.0 t.1) }
 {
     match form {
-        Form::Index => Some(Parts::of_index(cursor.u2().ok()?)),
-        Form::Branch => Some(Parts::of_offset(cursor.u2().ok()?.cast_signed())),
-        Form::Local => Some(Parts::of_local(cursor.u1().ok()?)),
-        Form::Constant => Some(Parts::of_constant(cursor.u1().ok()?)),
+        Form::Index => {
+            let [_, high, low, ..] = bytes else {
+                return None;
+            };
+            let index = BigEndian::read_u16(&[*high, *low]);
+            Some((act_of_index(meaning, index)?, 3))
+        }
+        Form::Branch => {
+            let [_, high, low, ..] = bytes else {
+                return None;
+            };
+            let offset = BigEndian::read_i16(&[*high, *low]);
+            Some((act_of_offset(meaning, i32::from(offset))?, 3))
+        }
+        Form::Local => {
+            let [_, local, ..] = bytes else {
+                return None;
+            };
+            Some((act_of_local(meaning, u16::from(*local))?, 2))
+        }
+        Form::Constant => {
+            let [_, index, ..] = bytes else {
+                return None;
+            };
+            Some((act_of_index(meaning, u16::from(*index))?, 2))
+        }
+        Form::Increment => {
+            let [_, local, _, ..] = bytes else {
+                return None;
+            };
+            Some((act_of_local(meaning, u16::from(*local))?, 3))
+        }
+        Form::InvokeInterface => {
+            let [_, high, low, count, zero, ..] = bytes else {
+                return None;
+            };
+            if *zero != 0 {
+                return None;
+            }
+            let index = BigEndian::read_u16(&[*high, *low]);
+            Some((act_of_count(meaning, index, *count)?, 5))
+        }
+        Form::Byte if bytes.len() >= 2 => Some((act_of_number(meaning)?, 2)),
+        Form::Short if bytes.len() >= 3 => Some((act_of_number(meaning)?, 3)),
         _ => None,
     }
 }
 
-/// Goes behind the instruction in front and answers its opcode and the parts of its operands, where one index, local
-/// variable or offset of at most two bytes is all that stands behind the opcode; otherwise the cursor stays where it is.
+/// Goes behind the instruction in front and answers its act, where it has no operands or those of a common form;
+/// otherwise, and where it is unsupported, the cursor stays where it is.
 #[inline(always)]
-pub(crate) fn take_parts<'a>(cursor: &mut Cursor<'_>) -> Option<(Opcode, Parts<'a>)>
-    ensures { TakesParts cursor.old cursor.new result }
+pub(crate) fn take_common_act<'a>(cursor: &mut Cursor<'_>) -> Option<Act<'a>>
+    ensures { TakesAct cursor.old cursor.new result }
 {
-    let mut step = cursor.fork();
-    let Ok(number) = step.u1() else {
+    let [number, ..] = cursor.rest() else {
         return None;
     };
-    let opcode = Opcode::from_number(number)?;
-    let parts = parts_behind(&mut step, opcode.form())?;
-    *cursor = step;
-    Some((opcode, parts))
+    let (_, _, form, meaning, alone) = row_at(*number)?;
+    if let Some(act) = alone {
+        cursor.part(1).ok()?;
+        return Some(*act);
+    }
+    let (act, length) = act_with_operands(cursor.rest(), *form, *meaning)?;
+    cursor.part(length).ok()?;
+    Some(act)
 }

@@ -1,33 +1,54 @@
-use Rattle.std.proofs.Common.{ℕ, Option}
-use Rattle.std.proofs.lemmas.Result.{err_from_is_err_and}
-use Rattle.frames.proofs.Marking.{marking_first, marking_shorter, marking_within, marking_next, marking_last, marking_spells, marking_fault}
+use Rattle.std.proofs.Common.{ℕ, ◌<◌, ◌≡◌, List, length, Option, None, Ok, refl, sym, subst}
+use Rattle.layout.specs.Place.{Place}
+use Rattle.frames.specs.declared.code_starts.StartKind.{StartKind}
+use Rattle.frames.proofs.Marking.{Marking, marking_shorter, marking_within, marking_next, marking_last}
 use Rattle.frames.proofs.code_starts.mark_starts.Goals as goal
 
-pub loop-step-init : goal.loop-step-init
-loop-step-init c = marking_first c.args.code.now c.new-instructions.result c.args.marks.now c.new-instructions.ensures c.requires.clear c.requires.len
+-- where nothing was skipped, all is as it was
+still : (code : List ℕ) (p q : Place) (marks : List StartKind) → q ≡ p → Marking code p marks → Marking code q marks
+still code p q marks same now = subst (λ (r : Place). Marking code r marks) (sym same) now
 
 pub bounds-marks-at : goal.bounds-marks-at
 bounds-marks-at c =
+    let old = c.loop-marks.instructions in
+    let x : ℕ × Option ℕ = (old.at, None) in
+    rw c.at-at.ensures (marking_within c.args.code.now old c.skip_plain.new.self c.loop-marks.marks (Ok x) x c.loop-marks.invariant (c.if-skip_plain.ensures.skipped refl) refl)
+
+pub loop-marks-preserved-then-skip_plain : goal.loop-marks-preserved-then-skip_plain
+loop-marks-preserved-then-skip_plain c =
+    let old = c.loop-marks.instructions in
+    let x : ℕ × Option ℕ = (old.at, None) in
+    rw c.at-at.ensures (marking_next c.args.code.now old c.skip_plain.new.self c.loop-marks.marks (Ok x) x c.loop-marks.invariant (c.if-skip_plain.ensures.skipped refl) refl c.mark_of.result c.mark_of.ensures)
+
+pub loop-marks-smaller-then-skip_plain : goal.loop-marks-smaller-then-skip_plain
+loop-marks-smaller-then-skip_plain c =
+    let old = c.loop-marks.instructions in
+    let x : ℕ × Option ℕ = (old.at, None) in
+    marking_shorter c.args.code.now old c.skip_plain.new.self c.loop-marks.marks (Ok x) x c.loop-marks.invariant (c.if-skip_plain.ensures.skipped refl) refl
+
+pub bounds-marks-at-in-loop-marks : goal.bounds-marks-at-in-loop-marks
+bounds-marks-at-in-loop-marks c =
+    let old = c.skip_plain.new.self in
     let x : ℕ × Option ℕ = (c.in_ok-at.at, c.in_ok-at.made) in
-    marking_within c.args.code.now c.loop-step.instructions c.next_start.new.self c.loop-step.marks c.in-Some.step x c.loop-step.invariant c.in-Some.ensures c.in_ok-at.was
+    let now = still c.args.code.now c.loop-marks.instructions c.skip_plain.new.self c.loop-marks.marks (c.if-skip_plain.ensures.stayed refl) c.loop-marks.invariant in
+    marking_within c.args.code.now old c.next_start.new.self c.loop-marks.marks c.in-Some.step x now c.in-Some.ensures c.in_ok-at.was
 
-pub loop-step-preserved : goal.loop-step-preserved
-loop-step-preserved c =
+pub loop-marks-preserved : goal.loop-marks-preserved
+loop-marks-preserved c =
+    let old = c.skip_plain.new.self in
     let x : ℕ × Option ℕ = (c.in_ok-at.at, c.in_ok-at.made) in
-    marking_next c.args.code.now c.loop-step.instructions c.next_start.new.self c.loop-step.marks c.in-Some.step x c.loop-step.invariant c.in-Some.ensures c.in_ok-at.was c.mark_of.result c.mark_of.ensures
+    let now = still c.args.code.now c.loop-marks.instructions c.skip_plain.new.self c.loop-marks.marks (c.if-skip_plain.ensures.stayed refl) c.loop-marks.invariant in
+    marking_next c.args.code.now old c.next_start.new.self c.loop-marks.marks c.in-Some.step x now c.in-Some.ensures c.in_ok-at.was c.mark_of-in-loop-marks.result c.mark_of-in-loop-marks.ensures
 
-pub loop-step-smaller : goal.loop-step-smaller
-loop-step-smaller c =
+pub loop-marks-smaller : goal.loop-marks-smaller
+loop-marks-smaller c =
+    let old = c.skip_plain.new.self in
     let x : ℕ × Option ℕ = (c.in_ok-at.at, c.in_ok-at.made) in
-    marking_shorter c.args.code.now c.loop-step.instructions c.next_start.new.self c.loop-step.marks c.in-Some.step x c.loop-step.invariant c.in-Some.ensures c.in_ok-at.was
+    let now = still c.args.code.now c.loop-marks.instructions c.skip_plain.new.self c.loop-marks.marks (c.if-skip_plain.ensures.stayed refl) c.loop-marks.invariant in
+    let less = marking_shorter c.args.code.now old c.next_start.new.self c.loop-marks.marks c.in-Some.step x now c.in-Some.ensures c.in_ok-at.was in
+    subst (λ (p : Place). length c.next_start.new.self.rest < length p.rest) (c.if-skip_plain.ensures.stayed refl) less
 
-pub returns-in_err-at-clause-fault : goal.returns-in_err-at-clause-fault
-returns-in_err-at-clause-fault c =
-    let p = err_from_is_err_and c.from_residual.result c.from_residual.ensures.1 in
-    rw (p.1, p.2) (marking_fault c.args.code.now c.loop-step.instructions c.next_start.new.self c.loop-step.marks c.in-Some.step c.in_err-at.field-0.0 c.loop-step.invariant c.in-Some.ensures c.in_err-at.was)
-
-pub returns-clause-marked : goal.returns-clause-marked
-returns-clause-marked c = marking_last c.args.code.now c.loop-step.instructions c.loop-step.marks c.loop-step.invariant c.in_default.ensures.0
-
-pub returns-clause-spelled : goal.returns-clause-spelled
-returns-clause-spelled c = marking_spells c.args.code.now c.loop-step.instructions c.loop-step.marks c.loop-step.invariant c.in_default.ensures.0
+pub returns-in_default-clause-marked : goal.returns-in_default-clause-marked
+returns-in_default-clause-marked c =
+    let now = still c.args.code.now c.loop-marks.instructions c.skip_plain.new.self c.loop-marks.marks (c.if-skip_plain.ensures.stayed refl) c.loop-marks.invariant in
+    marking_last c.args.code.now c.skip_plain.new.self c.loop-marks.marks now c.in_default.ensures.0
