@@ -44,7 +44,9 @@ impl Holders {
         }
     }
 
-    /// Lists a place of an object. A place of 2 to the 32 or more is refused as if memory ran out.
+    /// Lists a place of an object. A place of 2 to the 32 or more is refused as if memory ran out. It stands apart, so
+    /// that what [`list`](Holders::list) inlines stays small.
+    #[inline(never)]
     fn put(&mut self, object: u32, place: usize) -> Result<(), AllocError>
         ensures kept { KeepsListed self.old self.new }
         ensures listed { OnOk result (IsListed self.new object place) }

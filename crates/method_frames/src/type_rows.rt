@@ -131,6 +131,7 @@ impl<'t, 'c, 'n, C: Classes> TypeRows<'t, 'c, 'n, C> {
     }
 
     /// The numbers that types have.
+    #[inline(always)]
     pub fn types(&self) -> &'t TypeNumbers<'c, 'n, C>
         ensures { result.now ≡ self.now.types }
     {
@@ -138,6 +139,7 @@ impl<'t, 'c, 'n, C: Classes> TypeRows<'t, 'c, 'n, C> {
     }
 
     /// The number at a place of the running row.
+    #[inline(always)]
     pub fn get(&self, place: usize) -> u32
         requires { place < length self.now.running }
         ensures number { result ≡ slice_index self.now.running place }

@@ -14,12 +14,12 @@ ghost use Rattle.numbered_rules.specs.private.Calls.{receivers, IsOneTaken};
 ghost use Rattle.numbered_rules.specs.Held.{held, IsRunning};
 
 use crate::expected::Expected;
-use frames::both;
 use hierarchy::{Answer, Classes};
 use method_frames::MethodFrames;
 
 /// Takes one more operand off the stack, of a type that is assignable to the one of a number, and says whether all were
 /// of their types; none where the stack is empty.
+#[inline(always)]
 fn take_one<'n, C: Classes>(
     so_far: Answer<'n>,
     number: u32,
@@ -31,8 +31,7 @@ fn take_one<'n, C: Classes>(
     ensures rest { IsRunning frames.old frames.new }
 {
     let top = frames.pop()?;
-    let answer = Expected::Assignable(number).meets(top, frames.types());
-    Some(both(so_far, answer))
+    Some(Expected::Assignable(number).meets_too(so_far, top, frames.types()))
 }
 
 /// Takes the arguments of a call off the stack, by the numbers of the types of the parameters, the last one first; and

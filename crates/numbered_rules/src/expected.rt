@@ -1,6 +1,7 @@
 //! The expected types of operands and local variables, by the numbers of types.
-ghost use Rattle.std.specs.Prelude.{◌≡◌};
-ghost use Rattle.hierarchy.specs.Answer.{outcome_of};
+ghost use Rattle.std.specs.Prelude.{◌≡◌, true};
+ghost use Rattle.hierarchy.specs.Answer.{outcome_of, yes};
+ghost use Rattle.frames.specs.FrameAssignable.{both};
 ghost use Rattle.type_numbers.specs.Numbers.{Numbering, IsGiven};
 ghost use Rattle.type_numbers.specs.Decoding.{type_by};
 ghost use Rattle.rules.specs.TypingRules.{number};
@@ -9,6 +10,7 @@ ghost use Rattle.numbered_rules.specs.Expected.{accepts_by, number_asked, IsExpe
 ghost use Rattle.numbered_rules.specs.private.Kinds.{is_array_by, is_array_for_by, is_own_by, is_reference_by};
 
 use crate::kinds::number_of;
+use frames::both;
 use hierarchy::{Answer, Classes};
 use insn::{Kind, takes_array};
 use names::Primitive;
@@ -57,6 +59,7 @@ impl Asked for Kind {
 }
 
 /// Whether a type is that of a reference, initialized or not, by the parts of its number.
+#[inline(always)]
 pub fn is_reference(parts: Parts) -> bool
     ensures { result ≡ is_reference_by parts.tag }
 {
@@ -88,6 +91,7 @@ fn is_own(parts: Parts) -> bool
 
 impl Expected {
     /// A number of a kind.
+    #[inline(always)]
     pub fn number(kind: Kind) -> Expected
         ensures is { result ≡ number_asked kind }
         ensures stands { (s : Numbering) → StandsFor s result (number kind) }
@@ -97,7 +101,55 @@ impl Expected {
     }
 
     /// Whether the type of a number meets it (JVMS 4.10.1.2). Takes no memory.
+    #[inline(always)]
     pub fn meets<'n, C: Classes>(self, number: u32, types: &TypeNumbers<'_, 'n, C>) -> Answer<'n>
+        requires expected { IsExpected types.now self }
+        requires given { IsGiven types.now number }
+        ensures { outcome_of result ≡ accepts_by types.now self (type_by types.now number) }
+    {
+        if self.is_met_at_once(number) {
+            return Answer::Yes;
+        }
+        self.judge(number, types)
+    }
+
+    /// The answer so far, and whether the type of one more number meets it: no before missing, and then the first class
+    /// that is missing. Takes no memory.
+    #[inline(always)]
+    pub fn meets_too<'n, C: Classes>(
+        self,
+        so_far: Answer<'n>,
+        number: u32,
+        types: &TypeNumbers<'_, 'n, C>,
+    ) -> Answer<'n>
+        requires expected { IsExpected types.now self }
+        requires given { IsGiven types.now number }
+        ensures { outcome_of result
+            ≡ both (outcome_of so_far.entry) (accepts_by types.now self (type_by types.now number)) }
+    {
+        if self.is_met_at_once(number) {
+            return so_far;
+        }
+        both(so_far, self.judge(number, types))
+    }
+
+    /// Whether the number of a type tells by itself that the type meets it: as one that is assignable to itself, and as
+    /// any reference.
+    #[inline(always)]
+    fn is_met_at_once(self, number: u32) -> bool
+        ensures { (s : Numbering) → IsGiven s number → result ≡ true
+            → accepts_by s self (type_by s number) ≡ yes }
+    {
+        match self {
+            Expected::Assignable(to) => number == to,
+            Expected::Reference => is_reference(Parts::of(number)),
+            _ => false,
+        }
+    }
+
+    /// Whether the type of a number meets it, by the parts of the number and by the classes.
+    #[inline(never)]
+    fn judge<'n, C: Classes>(self, number: u32, types: &TypeNumbers<'_, 'n, C>) -> Answer<'n>
         requires expected { IsExpected types.now self }
         requires given { IsGiven types.now number }
         ensures { outcome_of result ≡ accepts_by types.now self (type_by types.now number) }

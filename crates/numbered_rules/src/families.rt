@@ -22,6 +22,7 @@ use method_frames::MethodFrames;
 use rules::Reason;
 
 /// Whether the stack has more units than this.
+#[inline(always)]
 fn is_wider<C: Classes>(limit: u16, frames: &MethodFrames<'_, '_, '_, C>) -> bool
     ensures { result ≡ nat_lt limit (units_of (held frames.now).stack) }
 {
@@ -30,6 +31,7 @@ fn is_wider<C: Classes>(limit: u16, frames: &MethodFrames<'_, '_, '_, C>) -> boo
 
 /// Judges the frame after an instruction: 65 where its stack is wider than max_stack, and 77 where the answer about the
 /// operands is a missing class. The answer is not no.
+#[inline(always)]
 pub fn judge_left<'n, C: Classes>(
     method: &CodeMethod<'_, '_>,
     answer: Answer<'n>,
@@ -48,6 +50,7 @@ pub fn judge_left<'n, C: Classes>(
 }
 
 /// Pushes the result of an instruction, and judges the frame after it.
+#[inline(always)]
 pub fn give<'n, C: Classes>(
     method: &CodeMethod<'_, '_>,
     answer: Answer<'n>,
@@ -64,6 +67,7 @@ pub fn give<'n, C: Classes>(
 }
 
 /// Pushes the result of an instruction, if it has one, and judges the frame after it.
+#[inline(always)]
 pub fn settle<'n, C: Classes>(
     method: &CodeMethod<'_, '_>,
     answer: Answer<'n>,
@@ -123,6 +127,7 @@ pub fn pops<'n, A: Asked, C: Classes>(
 
 /// Pushes a local variable (JVMS 4.10.1.9). Its refusals are 63 and 64, those of [`judge_left`], and 1 where memory
 /// runs out.
+#[inline(always)]
 pub fn loads<'n, C: Classes>(
     method: &CodeMethod<'_, '_>,
     ask: Expected,

@@ -9,7 +9,6 @@ ghost use Rattle.numbered_rules.specs.Expected.{AreExpected, StandsFor};
 ghost use Rattle.numbered_rules.specs.Held.{held, IsRunning};
 
 use crate::expected::Asked;
-use frames::both;
 use hierarchy::{Answer, Classes};
 use method_frames::MethodFrames;
 
@@ -30,7 +29,7 @@ pub fn take<'n, A: Asked, C: Classes>(
     for ask in asked {
         match frames.pop() {
             None => return None,
-            Some(number) => so_far = both(so_far, ask.expected().meets(number, frames.types())),
+            Some(number) => so_far = ask.expected().meets_too(so_far, number, frames.types()),
         }
     }
     Some(so_far)
