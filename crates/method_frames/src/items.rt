@@ -156,8 +156,7 @@ impl Items {
     pub fn has_units(&self, count: usize) -> bool
         ensures { (s : Numbering) → IsTrue result ↔ (count ≤ units_of (types_by s self.now)) }
     {
-        let height = self.numbers.len();
-        count <= height || count - height <= self.wides
+        count <= self.numbers.len() + self.wides
     }
 
     /// The number at a place from the bottom up; 0, which is that of Top, where there is none.

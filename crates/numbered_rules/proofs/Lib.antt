@@ -13,3 +13,5 @@ pub mod Loading
 pub mod Results
 pub mod Objects
 pub mod NamedClasses
+pub mod AtOnce
+pub mod Pushed

@@ -14,6 +14,7 @@ ghost use Rattle.numbered_rules.specs.private.Calls.{receivers, IsOneTaken};
 ghost use Rattle.numbered_rules.specs.Held.{held, IsRunning};
 
 use crate::expected::Expected;
+use frames::both;
 use hierarchy::{Answer, Classes};
 use method_frames::MethodFrames;
 
@@ -31,7 +32,11 @@ fn take_one<'n, C: Classes>(
     ensures rest { IsRunning frames.old frames.new }
 {
     let top = frames.pop()?;
-    Some(Expected::Assignable(number).meets_too(so_far, top, frames.types()))
+    if number == top {
+        return Some(so_far);
+    }
+    let answer = Expected::Assignable(number).meets(top, frames.types());
+    Some(both(so_far, answer))
 }
 
 /// Takes the arguments of a call off the stack, by the numbers of the types of the parameters, the last one first; and

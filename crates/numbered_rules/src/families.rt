@@ -15,7 +15,7 @@ ghost use Rattle.numbered_rules.specs.Held.{held, IsRunning};
 
 use crate::expected::{Asked, Expected};
 use crate::kinds::INT;
-use crate::operands::take;
+use crate::operands::{take, took_at_once};
 use classfile::CodeMethod;
 use hierarchy::{Answer, Classes};
 use method_frames::MethodFrames;
@@ -102,7 +102,30 @@ pub fn gives<'n, C: Classes>(
 
 /// Pops operands of the expected types, the top one first, and pushes a result (JVMS 4.10.1.9). Its refusals are 61
 /// and 62, those of [`judge_left`], and 1 where memory runs out.
+#[inline(always)]
 pub fn pops<'n, A: Asked, C: Classes>(
+    method: &CodeMethod<'_, '_>,
+    asked: &[A],
+    gives: Option<u32>,
+    frames: &mut MethodFrames<'_, '_, 'n, C>,
+) -> Result<(), Reason<'n>>
+    requires asked { AreExpected frames.old.types (map A.asked asked.now) }
+    requires gives { IfSome gives (IsGiven frames.old.types) }
+    ensures done { let s = frames.old.types in let m = method_view method.now in let f = held frames.old in
+        (ws : List ExpectedType) → AllZip (StandsFor s) (map A.asked asked.now) ws
+        → let p = pops ws (types_given s gives) [] true in
+        Done (conditions s.classes m 0 p f) (after m 0 p f) (held frames.new) result }
+    ensures rest { IsRunning frames.old frames.new }
+{
+    if took_at_once(asked, frames) {
+        return settle(method, Answer::Yes, gives, frames);
+    }
+    pops_judged(method, asked, gives, frames)
+}
+
+/// Pops operands of the expected types as [`pops`] does, whatever is asked about their types.
+#[inline(never)]
+fn pops_judged<'n, A: Asked, C: Classes>(
     method: &CodeMethod<'_, '_>,
     asked: &[A],
     gives: Option<u32>,
@@ -127,7 +150,6 @@ pub fn pops<'n, A: Asked, C: Classes>(
 
 /// Pushes a local variable (JVMS 4.10.1.9). Its refusals are 63 and 64, those of [`judge_left`], and 1 where memory
 /// runs out.
-#[inline(always)]
 pub fn loads<'n, C: Classes>(
     method: &CodeMethod<'_, '_>,
     ask: Expected,

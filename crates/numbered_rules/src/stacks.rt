@@ -1,7 +1,6 @@
 //! Instructions that move what is on the stack.
 ghost use Rattle.std.specs.Prelude.{◌≡◌, map, option_map};
 ghost use Rattle.insn.specs.Acts.{stack_forms};
-ghost use Rattle.insn.specs.declared.stack.StackOperator.TheVariants.{Pop, Dup};
 ghost use Rattle.insn.specs.Views.{stack_form_view};
 ghost use Rattle.frames.specs.VerificationType.{VerificationType};
 ghost use Rattle.type_numbers.specs.Numbers.{Numbering, IsNumber};
@@ -13,7 +12,7 @@ ghost use Rattle.rules.specs.Outcomes.{Done};
 ghost use Rattle.numbered_rules.specs.Held.{held, IsRunning};
 ghost use Rattle.numbered_rules.specs.private.Kinds.{is_narrow_by};
 
-use crate::families::{give, judge_left};
+use crate::families::judge_left;
 use classfile::CodeMethod;
 use hierarchy::{Answer, Classes};
 use insn::{StackForm, StackOperator, StackPlace};
@@ -23,7 +22,7 @@ use type_numbers::Parts;
 
 /// Whether a type takes one unit and is not top, by the parts of its number.
 #[inline(always)]
-fn is_narrow(parts: Parts) -> bool
+pub fn is_narrow(parts: Parts) -> bool
     ensures { result ≡ is_narrow_by parts.tag }
 {
     !(parts.tag == 0 || parts.tag == 3 || parts.tag == 4)
@@ -72,67 +71,6 @@ fn form_for<C: Classes>(
 /// An instruction that moves what is on the stack (JVMS 2.11.6, 4.10.1.9). Its refusals are 61 and 62, 65 where the
 /// stack is then wider than max_stack, and 1 where memory runs out; nothing is left on the stack then.
 pub fn rearranges<'n, C: Classes>(
-    method: &CodeMethod<'_, '_>,
-    operator: StackOperator,
-    frames: &mut MethodFrames<'_, '_, 'n, C>,
-) -> Result<(), Reason<'n>>
-    ensures done { let m = method_view method.now in let f = held frames.old in
-        let p = rearranges (stack_forms operator) in
-        Done (conditions frames.old.types.classes m 0 p f) (after m 0 p f) (held frames.new) result }
-    ensures rest { IsRunning frames.old frames.new }
-{
-    match operator {
-        StackOperator::Pop => pops_one(method, frames),
-        StackOperator::Dup => duplicates(method, frames),
-        _ => rearranges_by_form(method, operator, frames),
-    }
-}
-
-/// `pop`
-#[inline(always)]
-fn pops_one<'n, C: Classes>(
-    method: &CodeMethod<'_, '_>,
-    frames: &mut MethodFrames<'_, '_, 'n, C>,
-) -> Result<(), Reason<'n>>
-    ensures done { let m = method_view method.now in let f = held frames.old in
-        let p = rearranges (stack_forms Pop) in
-        Done (conditions frames.old.types.classes m 0 p f) (after m 0 p f) (held frames.new) result }
-    ensures rest { IsRunning frames.old frames.new }
-{
-    match frames.pop() {
-        None => Err(Reason::MissingOperand),
-        Some(number) => if is_narrow(Parts::of(number)) {
-            judge_left(method, Answer::Yes, frames)
-        } else {
-            Err(Reason::WrongOperand)
-        },
-    }
-}
-
-/// `dup`
-#[inline(always)]
-fn duplicates<'n, C: Classes>(
-    method: &CodeMethod<'_, '_>,
-    frames: &mut MethodFrames<'_, '_, 'n, C>,
-) -> Result<(), Reason<'n>>
-    ensures done { let m = method_view method.now in let f = held frames.old in
-        let p = rearranges (stack_forms Dup) in
-        Done (conditions frames.old.types.classes m 0 p f) (after m 0 p f) (held frames.new) result }
-    ensures rest { IsRunning frames.old frames.new }
-{
-    match frames.item(0) {
-        None => Err(Reason::MissingOperand),
-        Some(number) => if is_narrow(Parts::of(number)) {
-            give(method, Answer::Yes, number, frames)
-        } else {
-            Err(Reason::WrongOperand)
-        },
-    }
-}
-
-/// An instruction that moves what is on the stack, by the form that the stack fits.
-#[inline(never)]
-fn rearranges_by_form<'n, C: Classes>(
     method: &CodeMethod<'_, '_>,
     operator: StackOperator,
     frames: &mut MethodFrames<'_, '_, 'n, C>,
