@@ -71,6 +71,14 @@ impl Holders {
         Ok(())
     }
 
+    /// Whether none is listed.
+    #[inline(always)]
+    pub fn are_none(&self) -> bool
+        ensures { result ≡ true → (object place : ℕ) → IsListed self.now object place → ⊥ }
+    {
+        self.keys.is_empty()
+    }
+
     /// The keys of the places that came to hold an object, from the lowest up.
     pub fn of(&self, object: u32) -> Range<'_, u64>
         ensures { AreOf self.now object result }

@@ -69,6 +69,9 @@ fn replace_listed(
     ensures only { Replaces object by rows.old rows.new }
     ensures all { OnOk result (rows.new.running ≡ map (replaced object by) rows.old.running) }
 {
+    if holders.are_none() {
+        return Ok(());
+    }
     for key in holders.of(object) {
         let place = place_in(*key);
         if place < rows.slots() && rows.get(place) == object {

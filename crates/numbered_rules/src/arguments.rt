@@ -42,6 +42,7 @@ fn take_one<'n, C: Classes>(
 /// Takes the arguments of a call off the stack, by the numbers of the types of the parameters, the last one first; and
 /// beneath them the receiver, if there is one. None where there are too few items; then nothing is said of the items
 /// that are left, but that only the running frame changed.
+#[inline(always)]
 pub fn take_arguments<'n, C: Classes>(
     parameters: &[u32],
     receiver: Option<u32>,

@@ -17,10 +17,7 @@ use method_frames::MethodFrames;
 /// Whether the numbers of the first items of the stack tell at once that they are of the expected types, the top one
 /// first.
 #[inline(always)]
-fn are_met_at_once<A: Asked, C: Classes>(
-    asked: &[A],
-    frames: &MethodFrames<'_, '_, '_, C>,
-) -> bool
+fn are_met_at_once<A: Asked, C: Classes>(asked: &[A], frames: &MethodFrames<'_, '_, '_, C>) -> bool
     requires { AreExpected frames.now.types (map A.asked asked.now) }
     ensures { result ≡ true → AreMet frames.now.types (map A.asked asked.now) frames.now.running.stack }
 {

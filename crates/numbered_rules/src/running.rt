@@ -103,6 +103,7 @@ pub fn run<'n, C: Classes>(
 }
 
 /// Runs a plain instruction (see [`is_plain`](rules::is_plain)) as [`run`] does.
+#[inline(always)]
 pub fn run_plain<'n, C: Classes>(
     method: &CodeMethod<'_, '_>,
     act: &Act<'_>,
