@@ -15,3 +15,4 @@ pub mod Objects
 pub mod NamedClasses
 pub mod AtOnce
 pub mod Pushed
+pub mod OnTop
