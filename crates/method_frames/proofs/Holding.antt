@@ -1,6 +1,7 @@
 -- Rows of which the places that hold objects are listed, as they change.
-use Rattle.std.proofs.Common.{◌≡◌, ◌∙◌, ℕ, ◌+◌, ◌≤◌, ◌<◌, Bool, true, false, cond, nat_eq, List, [], ◌∷◌, ◌++◌, length, map, take, replicate, set, get_or, Result, Ok, Err, OnOk, OnErr, refl, sym, ap, subst, inl, inr, ◌⊎◌, arith}
+use Rattle.std.proofs.Common.{◌≡◌, ◌∙◌, ℕ, suc, ◌+◌, ◌≤◌, ◌<◌, Bool, true, false, cond, nat_eq, List, [], ◌∷◌, ◌++◌, length, map, take, replicate, set, get_or, Result, Ok, Err, OnOk, OnErr, refl, sym, ap, subst, inl, inr, ◌⊎◌, arith}
 use Rattle.std.proofs.lemmas.Bool.{cases_eq, cases_lt, true≢false}
+use Rattle.std.proofs.lemmas.Bool.Decides.{nat_tests}
 use Rattle.std.proofs.lemmas.List.{length-set, length-append, length-replicate, get_or-set_same, get_or-set_other, length-map, get_or_append_left, get_or_push, get_or-replicate, get_or-take, get_or-map}
 use Rattle.type_numbers.specs.Numbers.{Numbering, IsGiven}
 use Rattle.blocks.specs.Rows.{Rows, declared_row}
@@ -131,3 +132,16 @@ listed_map x row object by none all k lt o =
         let same = h ∙ ap (λ b. cond b by (get_or row k 0)) e in
         let long = length-map row (replaced object by) in
         subst (λ m. IsListed x m k) (sym same) (all k (omega (arith, lt, long)) (sym (ap is_object same) ∙ o))
+
+-- where no place is listed, no other number takes the place of an object's
+module _ (object by : ℕ) (own : is_object object ≡ true) where
+  none_among : (row : List ℕ) → ((place : ℕ) → place < length row → is_object (get_or row place 0) ≡ true → ⊥) → row ≡ map (replaced object by) row
+  none_among [] none = refl
+  none_among (n ∷ ns) none = (λ i. first (nat_eq n object) refl i ∷ none_among ns (λ place lt. none (suc place) (omega (arith, lt))) i)
+    where
+      first : (b : Bool) → nat_eq n object ≡ b → n ≡ replaced object by n
+      first true e = let same : n ≡ object = grind (arith, nat_tests, e) in absurd (none 0 (omega arith) (ap is_object same ∙ own))
+      first false e = sym (ap (λ b. cond b by n) e)
+
+  pub none_replaced : (x : Holders) (row : List ℕ) → ((o place : ℕ) → IsListed x o place → ⊥) → AreListed x row → row ≡ map (replaced object by) row
+  none_replaced x row none all = none_among row (λ place lt o. none (get_or row place 0) place (all place lt o))

@@ -1,11 +1,11 @@
 -- Keys of objects and places, as they are listed and found.
-use Rattle.std.proofs.Common.{◌≡◌, ◌∙◌, ℕ, ◌<◌, ◌≤◌, ◌&&◌, not, Bool, true, false, List, [], ◌∷◌, ◌||◌, refl, sym, ap, arith, ◌⊎◌, inl, inr}
+use Rattle.std.proofs.Common.{◌≡◌, ◌∙◌, ℕ, ◌<◌, ◌≤◌, ◌&&◌, not, Bool, true, false, List, [], ◌∷◌, ◌||◌, length, refl, sym, ap, arith, ◌⊎◌, inl, inr}
 use Rattle.std.specs.Prelude.{filter, cond}
 use Rattle.std.specs.Ordering.{nat_cmp, is_le, is_lt}
 use Rattle.std.specs.BTreeMap.{is_at}
 use Rattle.std.specs.BTreeMap.Range.{range_contains}
 use Rattle.std.specs.declared.ops.Bound.TheVariants.{Included}
-use Rattle.std.proofs.lemmas.Bool.{cases_Bool}
+use Rattle.std.proofs.lemmas.Bool.{cases_Bool, true≢false}
 use Rattle.std.proofs.lemmas.Bool.Decides.{nat_tests}
 use Rattle.std.proofs.lemmas.Map.Views.{any-filter_same}
 use Rattle.method_frames.specs.private.Holders.{is_among}
@@ -28,3 +28,8 @@ either false old new e o = e ∙ o
 
 pub among_kept : (old new : List ℕ) (added key : ℕ) → is_among new key ≡ cond (is_at (nat_cmp added) key) true (is_among old key) → is_among old key ≡ true → is_among new key ≡ true
 among_kept old new added key e o = either (is_at (nat_cmp added) key) (is_among old key) (is_among new key) e o
+
+-- no key is among none
+pub among_none : (keys : List ℕ) (key : ℕ) → length keys ≡ 0 → is_among keys key ≡ true → ⊥
+among_none [] key e a = true≢false (sym a)
+among_none (k ∷ ks) key e a = omega (arith, e)

@@ -44,7 +44,9 @@ impl Holders {
         }
     }
 
-    /// Lists a place of an object. A place of 2 to the 32 or more is refused as if memory ran out.
+    /// Lists a place of an object. A place of 2 to the 32 or more is refused as if memory ran out. It stands apart, so
+    /// that what [`list`](Holders::list) inlines stays small.
+    #[inline(never)]
     fn put(&mut self, object: u32, place: usize) -> Result<(), AllocError>
         ensures kept { KeepsListed self.old self.new }
         ensures listed { OnOk result (IsListed self.new object place) }
@@ -67,6 +69,14 @@ impl Holders {
             self.put(number, place)?;
         }
         Ok(())
+    }
+
+    /// Whether none is listed.
+    #[inline(always)]
+    pub fn are_none(&self) -> bool
+        ensures { result ≡ true → (object place : ℕ) → IsListed self.now object place → ⊥ }
+    {
+        self.keys.is_empty()
     }
 
     /// The keys of the places that came to hold an object, from the lowest up.

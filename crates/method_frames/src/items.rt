@@ -1,5 +1,5 @@
 //! The items of an operand stack, by the numbers of their types.
-ghost use Rattle.std.specs.Prelude.{◌≡◌, ℕ, ◌≤◌, ◌-◌, true, length, map, reverse, take, OnOk};
+ghost use Rattle.std.specs.Prelude.{◌≡◌, ℕ, ◌+◌, ◌≤◌, ◌<◌, ◌-◌, true, [], ◌∷◌, ◌++◌, length, map, reverse, take, vec_len, vec_capacity, OnOk, OnErr};
 ghost use Rattle.insn.specs.Stacks.{rearranged};
 ghost use Rattle.insn.specs.Views.{stack_form_view};
 ghost use Rattle.method_frames.specs.Objects.{is_object, replaced, holds};
@@ -33,6 +33,29 @@ impl Model for Items {
     ghost view = { λ x. reverse x.numbers.items };
 
     ghost invariant = { λ x. AreItems x.numbers.items x.wides x.holders };
+}
+
+/// Makes room for one number more. It stands apart, so that what [`append`] inlines stays small.
+#[inline(never)]
+fn make_room(numbers: &mut Vec<u32>) -> Result<(), AllocError>
+    ensures same { numbers.new.items ≡ numbers.old.items }
+    ensures room { OnOk result (vec_len numbers.new < vec_capacity numbers.new) }
+{
+    numbers.reserve(1)
+}
+
+/// Puts a number behind the others.
+#[inline(always)]
+fn append(number: u32, numbers: &mut Vec<u32>) -> Result<(), AllocError>
+    ensures ok { OnOk result (numbers.new.items ≡ numbers.old.items ++ number ∷ []) }
+    ensures len { OnOk result (vec_len numbers.new ≡ vec_len numbers.old + 1) }
+    ensures err { OnErr result (numbers.new.items ≡ numbers.old.items) }
+{
+    if numbers.len() >= numbers.capacity() {
+        make_room(numbers)?;
+    }
+    numbers.push_reserved(number);
+    Ok(())
 }
 
 /// Lists the items from a place up.
@@ -114,6 +137,7 @@ impl Items {
     }
 
     /// How many they are.
+    #[inline(always)]
     pub fn count(&self) -> usize
         ensures { result ≡ length self.now }
     {
@@ -128,14 +152,15 @@ impl Items {
     }
 
     /// Whether they take at least so many units.
+    #[inline(always)]
     pub fn has_units(&self, count: usize) -> bool
         ensures { (s : Numbering) → IsTrue result ↔ (count ≤ units_of (types_by s self.now)) }
     {
-        let height = self.numbers.len();
-        count <= height || count - height <= self.wides
+        count <= self.numbers.len() + self.wides
     }
 
     /// The number at a place from the bottom up; 0, which is that of Top, where there is none.
+    #[inline(always)]
     pub fn get(&self, place: usize) -> u32
         ensures { result ≡ slice_index (reverse self.now) place }
     {
@@ -143,17 +168,19 @@ impl Items {
     }
 
     /// Pushes an item.
+    #[inline(always)]
     pub fn push(&mut self, number: u32) -> Result<(), AllocError>
         ensures ok { OnOk result (self.new ≡ number ∷ self.old) }
         ensures err { OnErr result (self.new ≡ self.old) }
     {
         self.holders.list(number, self.numbers.len())?;
-        self.numbers.push(number)?;
+        append(number, &mut self.numbers)?;
         self.wides += extra(number);
         Ok(())
     }
 
     /// Takes the top off.
+    #[inline(always)]
     pub fn pop(&mut self) -> Option<u32>
         ensures { MatchOption result ((self.old ≡ []) × (self.new ≡ self.old))
             (λ number. self.old ≡ number ∷ self.new) }
@@ -180,6 +207,7 @@ impl Items {
     }
 
     /// The item that so many stand above.
+    #[inline(always)]
     pub fn item(&self, above: usize) -> Option<u32>
         ensures { result ≡ slice_get self.now above }
     {

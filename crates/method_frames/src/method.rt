@@ -141,6 +141,7 @@ impl<'t, 'c, 'n, C: Classes> MethodFrames<'t, 'c, 'n, C> {
     }
 
     /// The numbers that types have.
+    #[inline(always)]
     pub fn types(&self) -> &'t TypeNumbers<'c, 'n, C>
         ensures { result.now ≡ self.now.types }
     {
@@ -148,6 +149,7 @@ impl<'t, 'c, 'n, C: Classes> MethodFrames<'t, 'c, 'n, C> {
     }
 
     /// How many local variables the frames have.
+    #[inline(always)]
     pub fn max_locals(&self) -> u16
         ensures { result ≡ length self.now.running.locals }
     {
@@ -155,6 +157,7 @@ impl<'t, 'c, 'n, C: Classes> MethodFrames<'t, 'c, 'n, C> {
     }
 
     /// The number of a local variable of the running frame; 0, which is that of top, where there is no such local.
+    #[inline(always)]
     pub fn local(&self, place: usize) -> u32
         ensures number { result ≡ slice_index self.now.running.locals place }
         ensures given { IsGiven self.now.types result }
@@ -196,6 +199,7 @@ impl<'t, 'c, 'n, C: Classes> MethodFrames<'t, 'c, 'n, C> {
     }
 
     /// How many items are on the stack of the running frame.
+    #[inline(always)]
     pub fn depth(&self) -> usize
         ensures { result ≡ length self.now.running.stack }
     {
@@ -203,6 +207,7 @@ impl<'t, 'c, 'n, C: Classes> MethodFrames<'t, 'c, 'n, C> {
     }
 
     /// Whether the stack of the running frame has at least so many units.
+    #[inline(always)]
     pub fn has_units(&self, count: usize) -> bool
         ensures { IsTrue result ↔ (count ≤ units_of (types_by self.now.types self.now.running.stack)) }
     {
@@ -210,6 +215,7 @@ impl<'t, 'c, 'n, C: Classes> MethodFrames<'t, 'c, 'n, C> {
     }
 
     /// Pushes a type.
+    #[inline(always)]
     pub fn push(&mut self, number: u32) -> Result<(), AllocError>
         requires { IsGiven self.old.types number }
         ensures ok { OnOk result (self.new ≡ record self.old {
@@ -223,6 +229,7 @@ impl<'t, 'c, 'n, C: Classes> MethodFrames<'t, 'c, 'n, C> {
     }
 
     /// Takes the top of the stack off.
+    #[inline(always)]
     pub fn pop(&mut self) -> Option<u32>
         ensures taken { MatchOption result ((self.old.running.stack ≡ []) × (self.new ≡ self.old))
             (λ number. self.old ≡ record self.new {
@@ -236,6 +243,7 @@ impl<'t, 'c, 'n, C: Classes> MethodFrames<'t, 'c, 'n, C> {
     }
 
     /// The number of the item of the stack that so many stand above.
+    #[inline(always)]
     pub fn item(&self, above: usize) -> Option<u32>
         ensures item { result ≡ slice_get self.now.running.stack above }
         ensures given { IfSome result (IsGiven self.now.types) }

@@ -132,6 +132,7 @@ impl<'t, 'c, 'n, C: Classes> StackRows<'t, 'c, 'n, C> {
     }
 
     /// How many items the running stack has.
+    #[inline(always)]
     pub fn depth(&self) -> usize
         ensures { result ≡ length self.now.running }
     {
@@ -139,6 +140,7 @@ impl<'t, 'c, 'n, C: Classes> StackRows<'t, 'c, 'n, C> {
     }
 
     /// Whether the running stack has at least so many units, of which a long or a double takes two.
+    #[inline(always)]
     pub fn has_units(&self, count: usize) -> bool
         ensures { IsTrue result ↔ (count ≤ units_of (types_by self.now.types self.now.running)) }
     {
@@ -146,6 +148,7 @@ impl<'t, 'c, 'n, C: Classes> StackRows<'t, 'c, 'n, C> {
     }
 
     /// Pushes a type, by its number. The only refusal is 1, where memory runs out.
+    #[inline(always)]
     pub fn push(&mut self, number: u32) -> Result<(), AllocError>
         requires { IsGiven self.old.types number }
         ensures ok { OnOk result (self.new ≡ record self.old { running = number ∷ self.old.running }) }
@@ -155,6 +158,7 @@ impl<'t, 'c, 'n, C: Classes> StackRows<'t, 'c, 'n, C> {
     }
 
     /// Takes the top off.
+    #[inline(always)]
     pub fn pop(&mut self) -> Option<u32>
         ensures taken { MatchOption result ((self.old.running ≡ []) × (self.new ≡ self.old))
             (λ number. self.old ≡ record self.new { running = number ∷ self.new.running }) }
@@ -166,6 +170,7 @@ impl<'t, 'c, 'n, C: Classes> StackRows<'t, 'c, 'n, C> {
     }
 
     /// The number of the item that so many stand above.
+    #[inline(always)]
     pub fn item(&self, above: usize) -> Option<u32>
         ensures item { result ≡ slice_get self.now.running above }
         ensures given { IfSome result (IsGiven self.now.types) }

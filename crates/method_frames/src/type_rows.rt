@@ -69,6 +69,9 @@ fn replace_listed(
     ensures only { Replaces object by rows.old rows.new }
     ensures all { OnOk result (rows.new.running ≡ map (replaced object by) rows.old.running) }
 {
+    if holders.are_none() {
+        return Ok(());
+    }
     for key in holders.of(object) {
         let place = place_in(*key);
         if place < rows.slots() && rows.get(place) == object {
@@ -131,6 +134,7 @@ impl<'t, 'c, 'n, C: Classes> TypeRows<'t, 'c, 'n, C> {
     }
 
     /// The numbers that types have.
+    #[inline(always)]
     pub fn types(&self) -> &'t TypeNumbers<'c, 'n, C>
         ensures { result.now ≡ self.now.types }
     {
@@ -138,6 +142,7 @@ impl<'t, 'c, 'n, C: Classes> TypeRows<'t, 'c, 'n, C> {
     }
 
     /// The number at a place of the running row.
+    #[inline(always)]
     pub fn get(&self, place: usize) -> u32
         requires { place < length self.now.running }
         ensures number { result ≡ slice_index self.now.running place }

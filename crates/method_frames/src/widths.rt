@@ -7,6 +7,7 @@ ghost use Rattle.type_numbers.specs.Decoding.{type_by};
 ghost use Rattle.method_frames.specs.private.Counted.{IsCounted};
 
 /// Whether the type of a number is a long or a double.
+#[inline(always)]
 pub fn is_wide(number: u32) -> bool
     ensures { (s : Numbering) → result ≡ is_wide (type_by s number) }
 {
@@ -15,6 +16,7 @@ pub fn is_wide(number: u32) -> bool
 }
 
 /// How many units an item takes beyond the first, by the number of its type.
+#[inline(always)]
 pub fn extra(number: u32) -> usize
     ensures units { (s : Numbering) → width_of (type_by s number) ≡ 1 + result }
     ensures few { result ≤ 1 }

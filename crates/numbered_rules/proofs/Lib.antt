@@ -13,3 +13,6 @@ pub mod Loading
 pub mod Results
 pub mod Objects
 pub mod NamedClasses
+pub mod AtOnce
+pub mod Pushed
+pub mod OnTop

@@ -1,17 +1,31 @@
 -- Items of the stack, and the places of forms that they fit.
-use Rattle.std.proofs.Common.{◌≡◌, ◌∙◌, ℕ, zero, suc, ◌+◌, ◌<◌, ◌&&◌, Bool, false, List, [], ◌∷◌, ◌++◌, Option, Some, None, drop, map, length, get_or, slice_get, refl, sym, ap, ap₂, arith}
+use Rattle.std.proofs.Common.{◌≡◌, ◌∙◌, ℕ, zero, suc, ◌+◌, ◌<◌, ◌&&◌, Bool, true, false, if◌then◌else◌, List, [], ◌∷◌, ◌++◌, Option, Some, None, Result, drop, map, length, get_or, slice_get, refl, sym, ap, ap₂, arith}
 use Rattle.std.specs.Prelude.{option_map}
 use Rattle.std.proofs.lemmas.List.{drop_more, drop_all, map-append}
 use Rattle.std.proofs.lemmas.Option.{slice_get-map, slice_get_within, get_or_from_slice_get}
-use Rattle.hierarchy.proofs.Names.{none_some}
+use Rattle.classfile.specs.Methods.{Method}
+use Rattle.hierarchy.specs.Answer.{yes}
+use Rattle.hierarchy.proofs.Names.{none_some, some_same}
+use Rattle.insn.specs.Meanings.{Act}
+use Rattle.insn.specs.declared.stack.StackOperator.TheVariants.{Dup}
 use Rattle.insn.specs.declared.stack.StackPlace.{StackPlace}
-use Rattle.insn.specs.Acts.{StackForm}
+use Rattle.insn.specs.declared.stack.StackPlace.TheVariants.{Narrow}
+use Rattle.insn.specs.Acts.{StackForm, stack_forms}
 use Rattle.insn.specs.Stacks.{beneath, chosen, with_item, rearranged}
 use Rattle.frames.specs.VerificationType.{VerificationType, top}
+use Rattle.frames.specs.FrameFact.{FrameFact}
+use Rattle.frames.proofs.Units.{units_least}
 use Rattle.type_numbers.specs.Numbers.{Numbering, IsNumber, IsGiven}
 use Rattle.type_numbers.specs.Decoding.{type_by, types_by}
 use Rattle.type_numbers.proofs.Decoded.{number_read}
-use Rattle.rules.specs.After.{fits_place, fits_places}
+use Rattle.method_frames.specs.NumberedFrames.{NumberedFrames}
+use Rattle.rules.specs.declared.reason.Reason.{Reason}
+use Rattle.rules.specs.TypingRules.{rearranges}
+use Rattle.rules.specs.After.{after, fits_place, fits_places, is_narrow}
+use Rattle.rules.specs.Rules.{conditions}
+use Rattle.rules.specs.Outcomes.{Done, pushed, settled}
+use Rattle.rules.proofs.Settling.{moves_done}
+use Rattle.numbered_rules.specs.Held.{held}
 
 -- ---- places from one on
 
@@ -58,3 +72,28 @@ module _ {A B : Type 0} (f : A → B) where
 
   pub map_rearranged : (form : StackForm) (xs : List A) → map f (rearranged form xs) ≡ rearranged form (map f xs)
   map_rearranged form xs = map-append f (chosen xs form.leaves) (beneath form.takes xs) ∙ ap₂ (λ (a b : List B). a ++ b) (map_chosen xs form.leaves) (map_beneath form.takes xs)
+
+-- ---- dup
+
+module _ (m : Method Act) (x : NumberedFrames) (n : ℕ) (e : Some n ≡ slice_get x.running.stack 0) (narrow : is_narrow (type_by x.types n) ≡ true) where
+  abbrev dup_form : StackForm
+  dup_form = record { takes = Narrow ∷ []; leaves = 0 ∷ 0 ∷ [] }
+
+  on_top : (ns : List ℕ) → Some n ≡ slice_get ns 0 → types_by x.types ns ≡ type_by x.types n ∷ drop 1 (types_by x.types ns)
+  on_top [] h = absurd (none_some (sym h))
+  on_top (k ∷ ns) h = ap (λ i. type_by x.types i ∷ types_by x.types ns) (sym (some_same h))
+
+  top_is : (held x).stack ≡ type_by x.types n ∷ drop 1 (held x).stack
+  top_is = on_top x.running.stack e
+
+  pub dup_done : (now : FrameFact) (r : Result Unit Reason) → let f = held x in let g = pushed (type_by x.types n ∷ []) f in
+      Done (settled m yes g) g now r → Done (conditions x.types.classes m 0 (rearranges (stack_forms Dup)) f) (after m 0 (rearranges (stack_forms Dup)) f) now r
+  dup_done now r d =
+      let t = type_by x.types n in
+      let us = drop 1 (held x).stack in
+      let fits : fits_places (Narrow ∷ []) (held x).stack ≡ true = ap (fits_places (Narrow ∷ [])) top_is ∙ ap (λ b. b && true) narrow in
+      let long = ap length top_is in
+      moves_done x.types.classes m (stack_forms Dup) (held x) dup_form (t ∷ (held x).stack) now r (omega (arith, long, units_least (held x).stack))
+      (ap (λ b. if b then Some dup_form else None) fits)
+      (ap (λ ts. t ∷ ts) top_is ∙ sym (ap (rearranged dup_form) top_is))
+      d

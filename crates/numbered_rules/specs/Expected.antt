@@ -5,16 +5,16 @@ use Rattle.hierarchy.specs.Class.{ClassFact}
 use Rattle.hierarchy.specs.Answer.{Outcome, yes, yes_if}
 use Rattle.insn.specs.declared.operation.Kind.{Kind}
 use Rattle.insn.specs.declared.operation.Kind.TheVariants.{Int, Long, Float, Double}
-use Rattle.frames.specs.VerificationType.{VerificationType, array, uninit_this}
+use Rattle.frames.specs.VerificationType.{VerificationType, array, class, uninit_this}
 use Rattle.frames.specs.Assignable.{type_answer}
-use Rattle.type_numbers.specs.Numbers.{Numbering, IsGiven}
+use Rattle.type_numbers.specs.Numbers.{Numbering, IsGiven, IsNumber}
 use Rattle.type_numbers.specs.Decoding.{type_by}
 use Rattle.names.specs.Descriptors.{class as class_descriptor}
 use Rattle.names.specs.StandardNames.{object_name}
 use Rattle.rules.specs.TypingRules.{ExpectedType}
 use Rattle.rules.specs.Rules.{accepts, is_array, is_array_for, is_reference}
 use Rattle.numbered_rules.specs.declared.expected.Expected.{Expected}
-use Rattle.numbered_rules.specs.declared.expected.Expected.TheVariants.{Assignable, Reference, Array, ArrayFor, OwnOr}
+use Rattle.numbered_rules.specs.declared.expected.Expected.TheVariants.{Assignable, Reference, Array, ArrayFor, OwnOr, Object, ObjectArray}
 
 -- the type of arrays of the class `Object`
 abbrev pub objects : VerificationType
@@ -32,11 +32,15 @@ accepts_by s Reference t = yes_if (is_reference t)
 accepts_by s Array t = yes_if (is_array t)
 accepts_by s (ArrayFor p) t = yes_if (is_array_for p t)
 accepts_by s (OwnOr n) t = own_or s.classes (type_by s n) t
+accepts_by s (Object n) t = type_answer s.classes t (type_by s n)
+accepts_by s (ObjectArray n) t = type_answer s.classes t (type_by s n)
 
--- the number that it names was given to a type
+-- the number that it names was given to a type: that of the class Object, or of arrays of it, where this is asked for
 abbrev pub IsExpected : Numbering → Expected → Type 0
 IsExpected s (Assignable n) = IsGiven s n
 IsExpected s (OwnOr n) = IsGiven s n
+IsExpected s (Object n) = IsNumber s n (class object_name)
+IsExpected s (ObjectArray n) = IsNumber s n objects
 IsExpected s _ = Unit {0}
 
 abbrev pub AreExpected : Numbering → List Expected → Type 0

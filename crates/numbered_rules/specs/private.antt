@@ -3,3 +3,5 @@ pub mod Kinds
 pub mod Named
 pub mod Loading
 pub mod Calls
+pub mod Pushing
+pub mod Taking

@@ -15,9 +15,8 @@ ghost use Rattle.rules.specs.Bodies.{method_view};
 ghost use Rattle.rules.specs.Outcomes.{Done};
 ghost use Rattle.numbered_rules.specs.Expected.{objects};
 ghost use Rattle.numbered_rules.specs.Held.{held, IsRunning};
-ghost use Rattle.numbered_rules.specs.private.Kinds.{holds_references_by};
 
-use crate::expected::Expected;
+use crate::expected::{Expected, holds_references};
 use crate::families::pops;
 use crate::kinds::{NULL, TOP, number_of};
 use classfile::CodeMethod;
@@ -27,13 +26,6 @@ use method_frames::MethodFrames;
 use names::Primitive;
 use rules::Reason;
 use type_numbers::Parts;
-
-/// Whether a type is that of an array of references, by the parts of its number.
-fn holds_references(parts: Parts) -> bool
-    ensures { result ≡ holds_references_by parts.tag parts.dims }
-{
-    parts.tag == 9 && parts.dims > 1 || (parts.tag == 7 || parts.tag > 9) && parts.dims > 0
-}
 
 /// The number of the type of an array's element, if that is a reference: null for null, otherwise top.
 fn element_of(number: u32) -> u32
@@ -111,7 +103,7 @@ pub fn load_reference_element<'n, C: Classes>(
     let element = element_beneath(frames);
     let asked = [
         Expected::number(Kind::Int),
-        Expected::Assignable(object_array),
+        Expected::ObjectArray(object_array),
     ];
     pops(method, &asked, Some(element), frames)
 }
@@ -131,9 +123,9 @@ pub fn store_reference_element<'n, C: Classes>(
     ensures rest { IsRunning frames.old frames.new }
 {
     let asked = [
-        Expected::Assignable(object),
+        Expected::Object(object),
         Expected::number(Kind::Int),
-        Expected::Assignable(object_array),
+        Expected::ObjectArray(object_array),
     ];
     pops(method, &asked, None, frames)
 }

@@ -60,7 +60,7 @@ pub fn check_cast<'n, C: Classes>(
 {
     match class_at(table, index) {
         None => Err(Reason::WrongConstant),
-        Some(to) => pops(method, &[Expected::Assignable(object)], Some(to), frames),
+        Some(to) => pops(method, &[Expected::Object(object)], Some(to), frames),
     }
 }
 
@@ -81,7 +81,7 @@ pub fn instance_of<'n, C: Classes>(
 {
     match class_at(table, index) {
         None => Err(Reason::WrongConstant),
-        Some(_) => pops(method, &[Expected::Assignable(object)], Some(INT), frames),
+        Some(_) => pops(method, &[Expected::Object(object)], Some(INT), frames),
     }
 }
 

@@ -1,16 +1,17 @@
 //! The expected types of operands and local variables, by the numbers of types.
-ghost use Rattle.std.specs.Prelude.{◌≡◌};
-ghost use Rattle.hierarchy.specs.Answer.{outcome_of};
+ghost use Rattle.std.specs.Prelude.{◌≡◌, true};
+ghost use Rattle.hierarchy.specs.Answer.{outcome_of, yes};
 ghost use Rattle.type_numbers.specs.Numbers.{Numbering, IsGiven};
 ghost use Rattle.type_numbers.specs.Decoding.{type_by};
 ghost use Rattle.rules.specs.TypingRules.{number};
 ghost use Rattle.numbered_rules.specs.declared.expected.Expected.{Expected};
 ghost use Rattle.numbered_rules.specs.Expected.{accepts_by, number_asked, IsExpected, StandsFor};
-ghost use Rattle.numbered_rules.specs.private.Kinds.{is_array_by, is_array_for_by, is_own_by, is_reference_by};
+ghost use Rattle.numbered_rules.specs.private.Kinds.{holds_references_by, is_array_by, is_array_for_by, is_own_by, is_reference_by};
 
 use crate::kinds::number_of;
 use hierarchy::{Answer, Classes};
 use insn::{Kind, takes_array};
+use method_frames::is_object;
 use names::Primitive;
 use type_numbers::{Parts, TypeNumbers, element_at};
 
@@ -28,6 +29,11 @@ pub enum Expected {
     ArrayFor(Primitive),
     /// The own object that is not initialized, or a type that is assignable to the one of this number.
     OwnOr(u32),
+    /// A type that is assignable to the class `Object`, which has this number: null, a class or an array.
+    Object(u32),
+    /// A type that is assignable to that of arrays of the class `Object`, which has this number: null, or an array of
+    /// references.
+    ObjectArray(u32),
 }
 
 /// A type whose values stand for expected types.
@@ -57,6 +63,7 @@ impl Asked for Kind {
 }
 
 /// Whether a type is that of a reference, initialized or not, by the parts of its number.
+#[inline(always)]
 pub fn is_reference(parts: Parts) -> bool
     ensures { result ≡ is_reference_by parts.tag }
 {
@@ -79,6 +86,14 @@ fn is_array_for(primitive: Primitive, parts: Parts) -> bool
         || parts.tag == 9 && parts.dims < 2 && takes_array(primitive, element_at(parts.rest))
 }
 
+/// Whether a type is that of an array of references, by the parts of its number.
+#[inline(always)]
+pub fn holds_references(parts: Parts) -> bool
+    ensures { result ≡ holds_references_by parts.tag parts.dims }
+{
+    parts.tag == 9 && parts.dims > 1 || (parts.tag == 7 || parts.tag > 9) && parts.dims > 0
+}
+
 /// Whether a type is that of the own object that is not initialized, by the parts of its number.
 fn is_own(parts: Parts) -> bool
     ensures { result ≡ is_own_by parts.tag }
@@ -88,6 +103,7 @@ fn is_own(parts: Parts) -> bool
 
 impl Expected {
     /// A number of a kind.
+    #[inline(always)]
     pub fn number(kind: Kind) -> Expected
         ensures is { result ≡ number_asked kind }
         ensures stands { (s : Numbering) → StandsFor s result (number kind) }
@@ -97,13 +113,46 @@ impl Expected {
     }
 
     /// Whether the type of a number meets it (JVMS 4.10.1.2). Takes no memory.
+    #[inline(always)]
     pub fn meets<'n, C: Classes>(self, number: u32, types: &TypeNumbers<'_, 'n, C>) -> Answer<'n>
+        requires expected { IsExpected types.now self }
+        requires given { IsGiven types.now number }
+        ensures { outcome_of result ≡ accepts_by types.now self (type_by types.now number) }
+    {
+        if self.is_met_at_once(number) {
+            return Answer::Yes;
+        }
+        self.judge(number, types)
+    }
+
+    /// Whether the number of a type tells at once that the type meets it, with no question about classes.
+    #[inline(always)]
+    pub fn is_met_at_once(self, number: u32) -> bool
+        ensures { (s : Numbering) → IsGiven s number → IsExpected s self → result ≡ true
+            → accepts_by s self (type_by s number) ≡ yes }
+    {
+        match self {
+            Expected::Assignable(to) => number == to,
+            Expected::Reference => is_reference(Parts::of(number)),
+            Expected::Array => is_array(Parts::of(number)),
+            Expected::ArrayFor(primitive) => is_array_for(primitive, Parts::of(number)),
+            Expected::OwnOr(to) => number == to,
+            Expected::Object(_) => is_reference(Parts::of(number)) && !is_object(number),
+            Expected::ObjectArray(_) => holds_references(Parts::of(number)),
+        }
+    }
+
+    /// Whether the type of a number meets it, by the parts of the number and by the classes.
+    #[inline(never)]
+    fn judge<'n, C: Classes>(self, number: u32, types: &TypeNumbers<'_, 'n, C>) -> Answer<'n>
         requires expected { IsExpected types.now self }
         requires given { IsGiven types.now number }
         ensures { outcome_of result ≡ accepts_by types.now self (type_by types.now number) }
     {
         match self {
             Expected::Assignable(to) => types.assignable(number, to),
+            Expected::Object(to) => types.assignable(number, to),
+            Expected::ObjectArray(to) => types.assignable(number, to),
             Expected::Reference => Answer::yes_if(is_reference(Parts::of(number))),
             Expected::Array => Answer::yes_if(is_array(Parts::of(number))),
             Expected::ArrayFor(primitive) => Answer::yes_if(is_array_for(

@@ -15,13 +15,14 @@ ghost use Rattle.numbered_rules.specs.Held.{held, IsRunning};
 
 use crate::expected::{Asked, Expected};
 use crate::kinds::INT;
-use crate::operands::take;
+use crate::operands::{take, took_at_once};
 use classfile::CodeMethod;
 use hierarchy::{Answer, Classes};
 use method_frames::MethodFrames;
 use rules::Reason;
 
 /// Whether the stack has more units than this.
+#[inline(always)]
 fn is_wider<C: Classes>(limit: u16, frames: &MethodFrames<'_, '_, '_, C>) -> bool
     ensures { result ≡ nat_lt limit (units_of (held frames.now).stack) }
 {
@@ -30,6 +31,7 @@ fn is_wider<C: Classes>(limit: u16, frames: &MethodFrames<'_, '_, '_, C>) -> boo
 
 /// Judges the frame after an instruction: 65 where its stack is wider than max_stack, and 77 where the answer about the
 /// operands is a missing class. The answer is not no.
+#[inline(always)]
 pub fn judge_left<'n, C: Classes>(
     method: &CodeMethod<'_, '_>,
     answer: Answer<'n>,
@@ -48,6 +50,7 @@ pub fn judge_left<'n, C: Classes>(
 }
 
 /// Pushes the result of an instruction, and judges the frame after it.
+#[inline(always)]
 pub fn give<'n, C: Classes>(
     method: &CodeMethod<'_, '_>,
     answer: Answer<'n>,
@@ -64,6 +67,7 @@ pub fn give<'n, C: Classes>(
 }
 
 /// Pushes the result of an instruction, if it has one, and judges the frame after it.
+#[inline(always)]
 pub fn settle<'n, C: Classes>(
     method: &CodeMethod<'_, '_>,
     answer: Answer<'n>,
@@ -98,7 +102,30 @@ pub fn gives<'n, C: Classes>(
 
 /// Pops operands of the expected types, the top one first, and pushes a result (JVMS 4.10.1.9). Its refusals are 61
 /// and 62, those of [`judge_left`], and 1 where memory runs out.
+#[inline(always)]
 pub fn pops<'n, A: Asked, C: Classes>(
+    method: &CodeMethod<'_, '_>,
+    asked: &[A],
+    gives: Option<u32>,
+    frames: &mut MethodFrames<'_, '_, 'n, C>,
+) -> Result<(), Reason<'n>>
+    requires asked { AreExpected frames.old.types (map A.asked asked.now) }
+    requires gives { IfSome gives (IsGiven frames.old.types) }
+    ensures done { let s = frames.old.types in let m = method_view method.now in let f = held frames.old in
+        (ws : List ExpectedType) → AllZip (StandsFor s) (map A.asked asked.now) ws
+        → let p = pops ws (types_given s gives) [] true in
+        Done (conditions s.classes m 0 p f) (after m 0 p f) (held frames.new) result }
+    ensures rest { IsRunning frames.old frames.new }
+{
+    if took_at_once(asked, frames) {
+        return settle(method, Answer::Yes, gives, frames);
+    }
+    pops_judged(method, asked, gives, frames)
+}
+
+/// Pops operands of the expected types as [`pops`] does, whatever is asked about their types.
+#[inline(never)]
+fn pops_judged<'n, A: Asked, C: Classes>(
     method: &CodeMethod<'_, '_>,
     asked: &[A],
     gives: Option<u32>,

@@ -20,6 +20,7 @@ pub const LONG: u32 = 0x0400_0000;
 pub const NULL: u32 = 0x0500_0000;
 
 /// The number of the type of a kind.
+#[inline(always)]
 pub fn number_of(kind: Kind) -> u32
     ensures is { result ≡ kind_number kind }
     ensures given { (s : Numbering) → IsNumber s result (number_type kind) }

@@ -18,6 +18,8 @@
 //! - `kinds`: the numbers of the types that every method may name.
 //! - `named`: the constants that instructions name, by the table of a class's constants.
 //! - `operands`: how operands are taken.
+//! - `pushing`: instructions that take no operand and push one type, where the numbers of types tell at once that they
+//!   may.
 //! - `returning`: returns.
 //! - `rule_numbers`: the numbers of the types that the rules of a method's instructions ask for.
 //! - `running`: the rule of an instruction by its act.
@@ -43,6 +45,7 @@ mod kinds;
 mod making;
 mod named;
 mod operands;
+mod pushing;
 mod returning;
 mod rule_numbers;
 mod running;

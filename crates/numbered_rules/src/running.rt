@@ -23,15 +23,16 @@ use crate::computing::{
     throws,
 };
 use crate::constants::loads_constant;
-use crate::families::counts;
+use crate::families::{counts, give};
 use crate::fields::{get_field, get_static, put_field, put_static};
 use crate::making::new_object;
+use crate::pushing::pushed_at_once;
 use crate::returning::{return_nothing, return_number, return_reference};
 use crate::rule_numbers::{NamedFacts, RuleNumbers};
 use crate::special_calls::invoke_special;
 use crate::stacks::rearranges;
 use classfile::CodeMethod;
-use hierarchy::Classes;
+use hierarchy::{Answer, Classes};
 use insn::Act;
 use method_frames::MethodFrames;
 use rules::Reason;
@@ -102,7 +103,30 @@ pub fn run<'n, C: Classes>(
 }
 
 /// Runs a plain instruction (see [`is_plain`](rules::is_plain)) as [`run`] does.
+#[inline(always)]
 pub fn run_plain<'n, C: Classes>(
+    method: &CodeMethod<'_, '_>,
+    act: &Act<'_>,
+    numbers: &RuleNumbers<'_>,
+    frames: &mut MethodFrames<'_, '_, 'n, C>,
+) -> Result<(), Reason<'n>>
+    requires locals { length frames.old.running.locals ≡ method.now.code.now.max_locals }
+    requires numbers { AreRuleNumbers frames.old.types (method_view method.now) numbers.now }
+    requires plain { is_plain (act_view act.now) ≡ true }
+    ensures done { (at : ℕ) → let m = method_view method.now in let f = held frames.old in
+        let p = typing_rule m (act_view act.now) in
+        Done (conditions frames.old.types.classes m at p f) (after m at p f) (held frames.new) result }
+    ensures rest { IsRunning frames.old frames.new }
+{
+    match pushed_at_once(method, act, frames) {
+        Some(number) => give(method, Answer::Yes, number, frames),
+        None => run_judged(method, act, numbers, frames),
+    }
+}
+
+/// Runs a plain instruction, whatever it asks for. It stands apart, so that what most instructions take stays small.
+#[inline(never)]
+fn run_judged<'n, C: Classes>(
     method: &CodeMethod<'_, '_>,
     act: &Act<'_>,
     numbers: &RuleNumbers<'_>,

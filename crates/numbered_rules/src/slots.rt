@@ -13,6 +13,7 @@ use method_frames::{MethodFrames, is_wide};
 use std::alloc::AllocError;
 
 /// Where the local before this place holds a long or double, it becomes top.
+#[inline(always)]
 fn free_half<C: Classes>(
     place: usize,
     frames: &mut MethodFrames<'_, '_, '_, C>,
@@ -33,6 +34,7 @@ fn free_half<C: Classes>(
 
 /// Stores a type to a local variable (JVMS 4.10.1.2). A long or double makes the next one top; where the one before
 /// held a long or double, that becomes top.
+#[inline(always)]
 pub fn store<C: Classes>(
     number: u32,
     place: usize,

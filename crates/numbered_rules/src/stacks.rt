@@ -21,7 +21,8 @@ use rules::{Reason, units_taken};
 use type_numbers::Parts;
 
 /// Whether a type takes one unit and is not top, by the parts of its number.
-fn is_narrow(parts: Parts) -> bool
+#[inline(always)]
+pub fn is_narrow(parts: Parts) -> bool
     ensures { result ≡ is_narrow_by parts.tag }
 {
     !(parts.tag == 0 || parts.tag == 3 || parts.tag == 4)

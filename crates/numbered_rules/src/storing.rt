@@ -18,6 +18,7 @@ use rules::Reason;
 
 /// The top of the stack to a local variable (JVMS 4.10.1.9). Its refusals are 61, 62 and 64, those of `judge_left`, and
 /// 1 where memory runs out.
+#[inline(always)]
 pub fn stores<'n, C: Classes>(
     method: &CodeMethod<'_, '_>,
     ask: Expected,

@@ -8,8 +8,8 @@ use Rattle.type_numbers.specs.Decoding.{type_by}
 use Rattle.rules.specs.Bodies.{method_view}
 use Rattle.rules.specs.Table.{object_array}
 use Rattle.rules.specs.TypingRules.{number}
-use Rattle.numbered_rules.specs.declared.expected.Expected.TheVariants.{Assignable}
-use Rattle.numbered_rules.specs.Expected.{objects, IsExpected}
+use Rattle.numbered_rules.specs.declared.expected.Expected.TheVariants.{ObjectArray}
+use Rattle.numbered_rules.specs.Expected.{IsExpected}
 use Rattle.numbered_rules.specs.Held.{held}
 use Rattle.numbered_rules.proofs.Elements.{element_loaded}
 use Rattle.numbered_rules.proofs.Standing.{type_stands}
@@ -18,7 +18,7 @@ use Rattle.numbered_rules.proofs.arrays.load_reference_element.Goals as goal
 pub pops-requires-clause-asked : goal.pops-requires-clause-asked
 pops-requires-clause-asked g c =
     let s = c.args.frames.now.types in
-    All-cons (IsExpected s) c.number.result (Assignable c.args.object_array ∷ []) (c.number.ensures.given s) (All-cons (IsExpected s) (Assignable c.args.object_array) [] (objects, c.requires) (All-nil (IsExpected s)))
+    All-cons (IsExpected s) c.number.result (ObjectArray c.args.object_array ∷ []) (c.number.ensures.given s) (All-cons (IsExpected s) (ObjectArray c.args.object_array) [] c.requires (All-nil (IsExpected s)))
 
 pub returns-clause-done : goal.returns-clause-done
 returns-clause-done g c = λ at.

@@ -4,20 +4,19 @@ use Rattle.names.specs.Descriptors.{class as class_descriptor}
 use Rattle.names.specs.ReferenceTypes.{array_type, class_type}
 use Rattle.names.specs.StandardNames.{object_name}
 use Rattle.insn.specs.declared.operation.Kind.TheVariants.{Int}
-use Rattle.frames.specs.VerificationType.{class}
 use Rattle.rules.specs.Table.{object_array}
 use Rattle.rules.specs.TypingRules.{expected_class, number}
-use Rattle.numbered_rules.specs.declared.expected.Expected.TheVariants.{Assignable}
-use Rattle.numbered_rules.specs.Expected.{objects, IsExpected}
+use Rattle.numbered_rules.specs.declared.expected.Expected.TheVariants.{Object, ObjectArray}
+use Rattle.numbered_rules.specs.Expected.{IsExpected}
 use Rattle.numbered_rules.proofs.Standing.{type_stands}
 use Rattle.numbered_rules.proofs.arrays.store_reference_element.Goals as goal
 
 pub pops-requires-clause-asked : goal.pops-requires-clause-asked
 pops-requires-clause-asked g c =
     let s = c.args.frames.now.types in
-    let array = Assignable c.args.object_array in
-    All-cons (IsExpected s) (Assignable c.args.object) (c.number.result ∷ array ∷ []) (class object_name, c.requires.object)
-    (All-cons (IsExpected s) c.number.result (array ∷ []) (c.number.ensures.given s) (All-cons (IsExpected s) array [] (objects, c.requires.array) (All-nil (IsExpected s))))
+    let array = ObjectArray c.args.object_array in
+    All-cons (IsExpected s) (Object c.args.object) (c.number.result ∷ array ∷ []) c.requires.object
+    (All-cons (IsExpected s) c.number.result (array ∷ []) (c.number.ensures.given s) (All-cons (IsExpected s) array [] c.requires.array (All-nil (IsExpected s))))
 
 pub returns-clause-done : goal.returns-clause-done
 returns-clause-done g c = λ at.

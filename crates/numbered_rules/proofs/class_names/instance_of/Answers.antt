@@ -4,7 +4,7 @@ use Rattle.names.specs.ReferenceTypes.{class_type}
 use Rattle.names.specs.StandardNames.{object_name}
 use Rattle.pool.specs.ConstantMeanings.{class_at}
 use Rattle.frames.specs.Slots.{to_reference}
-use Rattle.frames.specs.VerificationType.{class, int}
+use Rattle.frames.specs.VerificationType.{int}
 use Rattle.rules.specs.Bodies.{method_view}
 use Rattle.rules.specs.Constants.{instance_of}
 use Rattle.rules.specs.TypingRules.{pops, expected_class}
@@ -12,7 +12,7 @@ use Rattle.rules.specs.declared.reason.Reason.TheVariants.{WrongConstant}
 use Rattle.rules.proofs.Settling.{by_typing_rule}
 use Rattle.numbered_rules.specs.Expected.{IsExpected}
 use Rattle.numbered_rules.specs.Held.{held}
-use Rattle.numbered_rules.specs.declared.expected.Expected.TheVariants.{Assignable}
+use Rattle.numbered_rules.specs.declared.expected.Expected.TheVariants.{Object}
 use Rattle.numbered_rules.proofs.Judging.{refused}
 use Rattle.numbered_rules.proofs.Naming.{number_missing, number_named}
 use Rattle.numbered_rules.proofs.Standing.{type_stands}
@@ -27,7 +27,7 @@ returns-in-None-clause-done g c = λ at.
     refused m at (instance_of o) 66 WrongConstant s.classes f f (ap instance_of (number_missing s to_reference o (c.in-None.ensures s m.constant_pool c.requires.table))) refl
 
 pub pops-requires-clause-asked : goal.pops-requires-clause-asked
-pops-requires-clause-asked g c = let s = c.args.frames.now.types in All-cons (IsExpected s) (Assignable c.args.object) [] (class object_name, c.requires.object) (All-nil (IsExpected s))
+pops-requires-clause-asked g c = let s = c.args.frames.now.types in All-cons (IsExpected s) (Object c.args.object) [] c.requires.object (All-nil (IsExpected s))
 
 pub pops-requires-clause-gives : goal.pops-requires-clause-gives
 pops-requires-clause-gives g c = (int, record { number = refl; noted = tt })

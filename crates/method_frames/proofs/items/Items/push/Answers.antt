@@ -8,7 +8,7 @@ use Rattle.method_frames.proofs.items.Items.push.Goals as goal
 pub overflow_add-self : goal.overflow_add-self
 overflow_add-self c =
     let x = c.self.inside in
-    omega (arith, wides_most x.numbers.items x.wides c.self.invariant.counted, c.in_ok-push.ensures.len, c.push.new.self.ok.0, x.numbers.ok.0, c.extra.ensures.few)
+    omega (arith, wides_most x.numbers.items x.wides c.self.invariant.counted, c.in_ok-append.ensures.len, c.append.new.numbers.ok.0, x.numbers.ok.0, c.extra.ensures.few)
 
 pub invariant_of-self : goal.invariant_of-self
 invariant_of-self c =
@@ -22,8 +22,8 @@ invariant_of-self-2 c =
     let kept = listed_kept x.holders c.list.new.self c.list.ensures.kept ns c.self.invariant.listed in
     let at : c.len.result ≡ length ns = omega (arith, c.len.ensures, x.numbers.ok.0) in
     record {
-      counted = subst (λ ns. IsCounted ns (x.wides + c.extra.result)) (sym c.in_ok-push.ensures.items)
+      counted = subst (λ ns. IsCounted ns (x.wides + c.extra.result)) (sym c.in_ok-append.ensures.ok)
           (counted_more ns c.args.number x.wides c.extra.result c.extra.ensures.units c.self.invariant.counted);
-      listed = subst (AreListed c.list.new.self) (sym c.in_ok-push.ensures.items)
+      listed = subst (AreListed c.list.new.self) (sym c.in_ok-append.ensures.ok)
           (listed_push c.list.new.self ns c.args.number kept (λ o. subst (IsListed c.list.new.self c.args.number) at (c.in_ok-list.ensures.listed o)));
     }

@@ -1,6 +1,6 @@
 use Rattle.rules.specs.Bodies.{method_view}
 use Rattle.rules.proofs.Settling.{by_act}
-use Rattle.numbered_rules.proofs.running.run_plain.Goals as goal
+use Rattle.numbered_rules.proofs.running.run_judged.Goals as goal
 
 pub returns-in-LoadElement-clause-done : goal.returns-in-LoadElement-clause-done
 returns-in-LoadElement-clause-done g c = λ at. by_act (method_view c.args.method.now) at _ _ _ _ _ _ c.in-LoadElement.is (c.load_element.ensures.done at)
