@@ -50,6 +50,7 @@ follows_on old now r es at h k =
       few = k.few;
       within = k.within;
       reached = k.reached;
+      later = k.later;
       settled = λ place one o. let so = k.settled place one o in record { stands = so.stands; comes = so.comes };
       representatives = k.representatives;
     } in
