@@ -164,7 +164,7 @@ module _ (classes : List ClassFact) (m : Method Act) (frames : Frames) (at : ℕ
     same_whole =
         append_assoc rule (ways_of (targets at p)) aside
         ∙ ap (λ (b : Bool). rule ++ (ways_of (targets at p) ++ (before_conditions classes m frames at a f
-            ++ ((reason 71, b) ∷ (reason 75, constructs_own p f && is_covered m.exceptions at) ∷ []))))
+        ++ ((reason 71, b) ∷ (reason 75, constructs_own p f && is_covered m.exceptions at) ∷ []))))
         (ap (λ (b : Bool). b && last) (ways m a).way.falls_on ∙ ap (λ (b : Bool). falls p && b) (sym is))
 
     -- what is judged of both in turn, together

@@ -21,7 +21,7 @@ returns-then-is_plain-clause-way g c =
     let idle = c.are_idle.ensures c.if-not-are_idle.false m.exceptions follows ahead in (
       plain,
       aside_none x.types.classes m (frames_by x.types x.declared) c.args.at (held x) a c.args.last (unused x.types.classes m a false (plainly.uses_none a plain)) idle
-      (sym c.falls_off.ensures ∙ c.if-falls_off.false) (uncalled a (is_covered m.exceptions c.args.at) (plainly.calls_none a plain)),
+          (sym c.falls_off.ensures ∙ c.if-falls_off.false) (uncalled a (is_covered m.exceptions c.args.at) (plainly.calls_none a plain)),
     )
 
 pub returns-then-asks_no_more-clause-way : goal.returns-then-asks_no_more-clause-way
@@ -35,7 +35,7 @@ returns-then-asks_no_more-clause-way g c =
       sets_none m a no_more,
       names_none m a no_more,
       aside_none x.types.classes m (frames_by x.types x.declared) c.args.at (held x) a c.args.last (unused x.types.classes m a false (uses_none a no_more)) idle
-      (sym c.falls_off.ensures ∙ c.if-falls_off.false) (uncalled a (is_covered m.exceptions c.args.at) (calls_none a no_more)),
+          (sym c.falls_off.ensures ∙ c.if-falls_off.false) (uncalled a (is_covered m.exceptions c.args.at) (calls_none a no_more)),
     )
 
 pub returns-in-Some-clause-way : goal.returns-in-Some-clause-way
@@ -49,5 +49,5 @@ returns-in-Some-clause-way g c =
       c.in-Some.ensures.own,
       c.in-Some.ensures.bootstrapped,
       aside_none x.types.classes m (frames_by x.types x.declared) c.args.at (held x) a c.args.last unguarded idle
-      (sym c.falls_off.ensures ∙ c.if-falls_off.false) (c.in-Some.ensures.uncovered x m.exceptions follows ahead),
+          (sym c.falls_off.ensures ∙ c.if-falls_off.false) (c.in-Some.ensures.uncovered x m.exceptions follows ahead),
     )

@@ -96,7 +96,6 @@ returns-in-Err-clause-judged g c =
     c.refuse.ensures v
     (stops_in classes m frames (act_located x) (acts one.others) comes f v same (held c.enter.new.frames) c.enter.result c.in-Err.reason c.in-Err.is entered)
 
-
 pub way_of-requires-clause-handlers : goal.way_of-requires-clause-handlers
 way_of-requires-clause-handlers g c =
     let m = method_view c.args.body.now.method.now in
