@@ -28,10 +28,6 @@ uses_none (acts.PutField i) e = cc
 uses_none (acts.InvokeVirtual i) e = cc
 uses_none a e = refl
 
-pub calls_none : (a : Act) → asks_no_more a ≡ true → special_index a ≡ None
-calls_none (acts.InvokeSpecial i) e = cc
-calls_none a e = refl
-
 pub sets_none : (m : Method Act) (a : Act) → asks_no_more a ≡ true → false ≡ sets_own m a
 sets_none m (acts.PutField i) e = cc
 sets_none m a e = refl

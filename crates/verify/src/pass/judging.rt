@@ -1,5 +1,5 @@
 //! One instruction, and the way in which it is judged.
-ghost use Rattle.std.specs.Prelude.{◌≡◌, ◌&&◌, ℕ, Bool, Option, is_none, length, OnOk};
+ghost use Rattle.std.specs.Prelude.{◌≡◌, ◌&&◌, ℕ, [], Bool, Option, is_none, length, IsTrue, OnOk};
 ghost use Rattle.insn.specs.Views.{act_view};
 ghost use Rattle.method_frames.specs.MapFrames.{frames_by};
 ghost use Rattle.numbered_rules.specs.Held.{held, IsRunning};
@@ -8,7 +8,7 @@ ghost use Rattle.rules.specs.Bodies.{method_view};
 ghost use Rattle.rules.specs.Naming.{names_bootstrapped, sets_own};
 ghost use Rattle.rules.specs.Outcomes.{Done};
 ghost use Rattle.rules.specs.Table.{typing_rule};
-ghost use Rattle.rules.specs.Ways.{goes_on};
+ghost use Rattle.rules.specs.Ways.{branch_offsets, goes_on};
 ghost use Rattle.verify.specs.Verdict.{at_conditions};
 ghost use Rattle.verify.specs.private.JudgingSteps.{run_conditions};
 ghost use Rattle.numbered_rules.specs.Running.{AreRuleNumbers};
@@ -17,11 +17,11 @@ ghost use Rattle.verify.specs.private.pass.Alone.{asks_no_more, IsWay};
 
 use crate::flow::check_end;
 use crate::pass::handlers::Handlers;
-use crate::pass::members::{check_member, covers_constructor, facts_of, look_up};
+use crate::pass::members::{check_member, covers_constructor, facts_of, is_covered_call, look_up};
 use crate::pass::targets::check_targets;
 use classfile::CodeMethod;
 use hierarchy::Classes;
-use insn::Act;
+use insn::{Act, Branches};
 use method_frames::MethodFrames;
 use numbered_rules::{Body, NamedFacts, run};
 use rules::{ClassConstants, Reason, branches_by, goes_on, is_plain, together};
@@ -42,6 +42,14 @@ pub enum Way {
     Named(NamedFacts),
     /// By all that is asked of it.
     Wholly,
+}
+
+/// Whether an instruction branches nowhere.
+#[inline(always)]
+fn goes_nowhere(act: &Act<'_>) -> bool
+    ensures { IsTrue result → branch_offsets (act_view act.now) ≡ [] }
+{
+    matches!(branches_by(act), Branches::Nowhere)
 }
 
 /// Judges an instruction with this act, in the frame before it, which becomes the frame after: by its rule and its
@@ -66,7 +74,11 @@ pub fn judge_named<'a, C: Classes>(
         (held frames.new) result }
     ensures rest { IsRunning frames.old frames.new }
 {
-    run(body, at, act, facts, frames)?;
+    let ran = run(body, at, act, facts, frames);
+    if goes_nowhere(act) {
+        return ran;
+    }
+    ran?;
     check_targets(alloc, at, branches_by(act), frames)
 }
 
@@ -116,8 +128,9 @@ fn falls_off(act: &Act<'_>, last: bool) -> bool
     last && goes_on(act)
 }
 
-/// Whether nothing is asked of an instruction but its rule, its targets, the handlers around it, and that it goes on to
-/// another one: it uses no member on an object, calls no constructor, and names no bootstrap method.
+/// Whether nothing is asked of an instruction but its rule, its targets, the handlers around it, that it goes on to another
+/// one, and that no entry covers it where it calls a constructor: it uses no member on an object, and names no bootstrap
+/// method.
 #[inline(always)]
 fn asks_no_more(act: &Act<'_>) -> bool
     ensures { result ≡ asks_no_more (act_view act.now) }
@@ -127,7 +140,6 @@ fn asks_no_more(act: &Act<'_>) -> bool
         Act::GetField { .. }
             | Act::PutField { .. }
             | Act::InvokeVirtual { .. }
-            | Act::InvokeSpecial { .. }
             | Act::InvokeDynamic { .. }
             | Act::LoadConstant { .. }
             | Act::LoadWideConstant { .. }
@@ -164,10 +176,13 @@ pub fn way_of<'a, C: Classes>(
     if is_plain(act) {
         return Way::Plain;
     }
+    if is_covered_call(at, act, handlers) {
+        return Way::Wholly;
+    }
     if asks_no_more(act) {
         return Way::Named(NO_FACTS);
     }
-    match look_up(method, at, act, constants, handlers) {
+    match look_up(method, act, constants) {
         Some(facts) => Way::Named(facts),
         None => Way::Wholly,
     }

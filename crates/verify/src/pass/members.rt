@@ -87,6 +87,7 @@ pub fn used_index(act: &Act<'_>) -> Option<u16>
 
 /// Whether the member is guarded that an instruction uses on an object, if it uses one. The only refusal: memory ran
 /// out.
+#[inline(always)]
 fn uses_guarded<'a, C: Classes>(
     _method: &CodeMethod<'_, 'a>,
     act: &Act<'a>,
@@ -248,22 +249,20 @@ pub fn facts_of<'a, C: Classes>(
 
 /// Whether an entry of the exception table covers an instruction that may call a constructor.
 #[inline(always)]
-fn is_covered_call(at: u16, act: &Act<'_>, handlers: &Handlers) -> bool
+pub fn is_covered_call(at: u16, act: &Act<'_>, handlers: &Handlers) -> bool
     ensures { (x : NumberedFrames) (es : List ExceptionEntry) → Follows x es at handlers.now → AreAhead at handlers.now
         → result ≡ (is_some (special_index (act_view act.now)) && is_covered es at) }
 {
     special_index(act).is_some() && handlers.covers(at)
 }
 
-/// The facts about what an instruction names, where nothing is asked of it but its rule: it uses no guarded member on an
-/// object, and is no call of a constructor that an entry covers. There are none where memory ran out.
+/// The facts about what an instruction names, where it uses no guarded member on an object. There are none where memory
+/// ran out.
 #[inline(never)]
 pub fn look_up<'a, C: Classes>(
     method: &CodeMethod<'_, 'a>,
-    at: u16,
     act: &Act<'a>,
     constants: &mut ClassConstants<'_, '_, 'a, C>,
-    handlers: &Handlers,
 ) -> Option<NamedFacts>
     requires { constants.old.members.class ≡ method.now.class.now }
     ensures same { constants.new.members ≡ constants.old.members }
@@ -272,12 +271,7 @@ pub fn look_up<'a, C: Classes>(
         ≡ names_bootstrapped (method_view method.now) (act_view act.now)) }
     ensures unguarded { IfSome result (λ _. AnswersUse constants.old.members.classes (method_view method.now)
         (act_view act.now) false) }
-    ensures uncovered { IfSome result (λ _. (x : NumberedFrames) (es : List ExceptionEntry) → Follows x es at handlers.now
-        → AreAhead at handlers.now → (is_some (special_index (act_view act.now)) && is_covered es at) ≡ false) }
 {
-    if is_covered_call(at, act, handlers) {
-        return None;
-    }
     let Ok(false) = uses_guarded(method, act, constants) else {
         return None;
     };

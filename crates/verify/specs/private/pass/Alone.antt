@@ -7,16 +7,15 @@ use Rattle.method_frames.specs.NumberedFrames.{NumberedFrames}
 use Rattle.method_frames.specs.MapFrames.{frames_by}
 use Rattle.numbered_rules.specs.Held.{held}
 use Rattle.rules.specs.Naming.{loaded_index, names_bootstrapped, site_index, sets_own}
-use Rattle.rules.specs.Ways.{is_plain, special_index}
+use Rattle.rules.specs.Ways.{is_plain}
 use Rattle.verify.specs.declared.pass.judging.Way.{Way}
 use Rattle.verify.specs.declared.pass.judging.Way.TheVariants.{Plain, Named, Wholly}
 use Rattle.verify.specs.private.JudgingSteps.{aside_conditions}
 use Rattle.verify.specs.private.pass.Objects.{used_index}
 
--- the instruction uses no member on an object, calls no constructor, and names no bootstrap method
+-- the instruction uses no member on an object, and names no bootstrap method
 abbrev pub asks_no_more : Act → Bool
-asks_no_more a =
-    is_none (used_index a) && is_none (special_index a) && is_none (loaded_index a) && is_none (site_index a)
+asks_no_more a = is_none (used_index a) && is_none (loaded_index a) && is_none (site_index a)
 
 -- nothing is against it but what its rule and its targets are
 abbrev pub IsAlone : NumberedFrames → Method Act → ℕ → Act → Bool → Type 0

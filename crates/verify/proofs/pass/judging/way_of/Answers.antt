@@ -7,7 +7,7 @@ use Rattle.rules.specs.Guards.{Surroundings}
 use Rattle.verify.specs.Verdict.{is_covered}
 use Rattle.verify.specs.private.pass.Objects.{AnswersUse}
 use Rattle.verify.proofs.Plain as plainly
-use Rattle.verify.proofs.numbered.Alone.{aside_none, calls_none, names_none, sets_none, uncalled, uses_none}
+use Rattle.verify.proofs.numbered.Alone.{aside_none, names_none, sets_none, uncalled, uses_none}
 use Rattle.verify.proofs.numbered.Objects.{unused}
 use Rattle.verify.proofs.pass.judging.way_of.Goals as goal
 
@@ -35,7 +35,7 @@ returns-then-asks_no_more-clause-way g c =
       sets_none m a no_more,
       names_none m a no_more,
       aside_none x.types.classes m (frames_by x.types x.declared) c.args.at (held x) a c.args.last (unused x.types.classes m a false (uses_none a no_more)) idle
-          (sym c.falls_off.ensures ∙ c.if-falls_off.false) (uncalled a (is_covered m.exceptions c.args.at) (calls_none a no_more)),
+          (sym c.falls_off.ensures ∙ c.if-falls_off.false) (sym (c.is_covered_call.ensures x m.exceptions follows ahead) ∙ c.if-is_covered_call.false),
     )
 
 pub returns-in-Some-clause-way : goal.returns-in-Some-clause-way
@@ -49,5 +49,5 @@ returns-in-Some-clause-way g c =
       c.in-Some.ensures.own,
       c.in-Some.ensures.bootstrapped,
       aside_none x.types.classes m (frames_by x.types x.declared) c.args.at (held x) a c.args.last unguarded idle
-          (sym c.falls_off.ensures ∙ c.if-falls_off.false) (c.in-Some.ensures.uncovered x m.exceptions follows ahead),
+          (sym c.falls_off.ensures ∙ c.if-falls_off.false) (sym (c.is_covered_call.ensures x m.exceptions follows ahead) ∙ c.if-is_covered_call.false),
     )
