@@ -74,7 +74,7 @@ fn object_answer<'n, C: Classes>(
 
 /// The index of the member that an instruction uses on an object, if it may use one.
 #[inline(always)]
-pub fn used_index(act: &Act<'_>) -> Option<u16>
+fn used_index(act: &Act<'_>) -> Option<u16>
     ensures { result ≡ used_index (act_view act.now) }
 {
     match *act {
