@@ -1,5 +1,5 @@
 -- An instruction of which nothing is asked but its rule and its targets.
-use Rattle.std.proofs.Common.{◌≡◌, ◌∙◌, ℕ, Bool, true, false, ◌&&◌, is_some, is_none, List, ◌∷◌, [], Option, Some, None, refl, ap}
+use Rattle.std.proofs.Common.{◌≡◌, ◌∙◌, ℕ, Bool, true, false, ◌&&◌, is_some, List, ◌∷◌, [], Option, Some, None, refl, ap}
 use Rattle.classfile.specs.Methods.{Method}
 use Rattle.hierarchy.specs.Class.{ClassFact}
 use Rattle.insn.specs.Meanings as acts

@@ -1,4 +1,4 @@
-use Rattle.std.proofs.Common.{◌≡◌, ℤ, List, Ok, Err, ap, sym, subst}
+use Rattle.std.proofs.Common.{◌≡◌, ℤ, List, ap, sym, subst}
 use Rattle.std.proofs.lemmas.Result.{err_from_is_err_and}
 use Rattle.insn.specs.Offsets.{led_to}
 use Rattle.insn.specs.Views.{act_view}

@@ -1,4 +1,4 @@
-use Rattle.std.proofs.Common.{Bool, subst}
+use Rattle.std.proofs.Common.{subst}
 use Rattle.insn.specs.Views.{act_view}
 use Rattle.rules.specs.Bodies.{method_view}
 use Rattle.verify.specs.private.pass.Objects.{AnswersUse}

@@ -1,7 +1,6 @@
-use Rattle.std.proofs.Common.{◌≡◌, ◌⊎◌, ℕ, Bool, ◌+◌, ◌<◌, ◌≤◌, true, is_none, List, ◌∷◌, Option, Some, Result, Ok, Err, length, refl, sym, ◌∙◌, ap, subst, arith}
+use Rattle.std.proofs.Common.{◌≡◌, ◌⊎◌, ℕ, Bool, ◌+◌, ◌<◌, ◌≤◌, true, is_none, ◌∷◌, Option, Some, Result, Ok, Err, length, refl, sym, ◌∙◌, ap, subst, arith}
 use Rattle.std.proofs.lemmas.Bool.Decides.{nat_tests}
 use Rattle.layout.specs.Place.{Place}
-use Rattle.hierarchy.specs.Class.{ClassFact}
 use Rattle.insn.specs.declared.operation.Act as program
 use Rattle.insn.specs.Meanings.{Act}
 use Rattle.insn.specs.Offsets.{acts, at_offset, first_offset}
@@ -13,7 +12,6 @@ use Rattle.method_frames.specs.MapFrames.{frames_by}
 use Rattle.method_frames.specs.NumberedFrames.{NumberedFrames}
 use Rattle.numbered_rules.specs.Held.{held, IsRunning}
 use Rattle.rules.specs.Bodies.{method_view}
-use Rattle.rules.specs.Guards.{Surroundings}
 use Rattle.rules.specs.After.{after as frame_after}
 use Rattle.rules.specs.Outcomes.{Done}
 use Rattle.rules.specs.Reasons.{reason_view}
@@ -27,7 +25,7 @@ use Rattle.verify.proofs.Onward.{Remains, left, enters_straight, steps, taken_at
 use Rattle.verify.specs.private.JudgingSteps.{Enters}
 use Rattle.verify.specs.private.pass.Following.{Follows, IsOnward}
 use Rattle.verify.proofs.numbered.Settling.{follows_later}
-use Rattle.verify.proofs.numbered.Running.{onward_on, onward_same, onward_running, entered_from, follows_on, done_from, numbers_to, same_classes}
+use Rattle.verify.proofs.numbered.Running.{onward_on, onward_same, onward_running, entered_from, follows_on, done_from}
 use Rattle.verify.proofs.pass.passing.pass.Given.{Over}
 use Rattle.verify.proofs.pass.passing.pass.Goals as goal
 use Rattle.verify.proofs.pass.passing.pass.Goals.{After-goes_on-comes, After-way_of, After-run_plain, After-judge_named, then-not-goes_straight+in_default, else-not-goes_straight}
