@@ -73,9 +73,6 @@ module _ (old now : NumberedFrames) (r : IsOnward old now) where
   pub numbers_to : (m : Method Act) (x : RuleNumbers) → AreRuleNumbers old.types m x → AreRuleNumbers now.types m x
   numbers_to m x k = subst (λ (y : NumberedFrames). AreRuleNumbers y.types m x) (sym r.others) k
 
-  pub same_classes : now.types.classes ≡ old.types.classes
-  same_classes = ap (λ (y : NumberedFrames). y.types.classes) r.others
-
 pub when_ok : {T E : Type 0} (P : Type 0) (r : Result T E) → IsOk r → OnOk r P → P
 when_ok P (Ok x) e p = p
 when_ok P (Err x) e p = cc

@@ -1,5 +1,5 @@
 //! One instruction, and the way in which it is judged.
-ghost use Rattle.std.specs.Prelude.{◌≡◌, ◌&&◌, ℕ, [], Bool, Option, is_none, length, IsTrue, OnOk};
+ghost use Rattle.std.specs.Prelude.{◌≡◌, ◌&&◌, ℕ, [], Option, is_none, length, IsTrue, OnOk};
 ghost use Rattle.insn.specs.Views.{act_view};
 ghost use Rattle.method_frames.specs.MapFrames.{frames_by};
 ghost use Rattle.numbered_rules.specs.Held.{held, IsRunning};
