@@ -1,29 +1,30 @@
 -- The least reason against an instruction, by what is judged of it one after the other.
-use Rattle.std.proofs.Common.{◌≡◌, ◌⊎◌, ℕ, ◌<◌, ◌≤◌, Bool, true, false, ◌&&◌, is_none, nat_lt, ℤ, List, [], ◌∷◌, ◌++◌, Option, Some, None, Result, Ok, Err, refl, sym, ◌∙◌, ap, arith, inl, inr, if◌then◌else◌}
+use Rattle.std.proofs.Common.{◌≡◌, ◌⊎◌, ℕ, ◌<◌, ◌≤◌, Bool, true, false, ◌&&◌, is_none, nat_lt, ℤ, List, [], ◌∷◌, ◌++◌, Option, Some, None, Result, Ok, Err, refl, sym, ◌∙◌, ap, subst, arith, inl, inr, if◌then◌else◌}
 use Rattle.std.proofs.lemmas.Bool.Decides.{nat_tests}
-use Rattle.std.specs.Option.{option_map_or}
-use Rattle.classfile.specs.Methods.{Method, ExceptionEntry, covers}
+use Rattle.std.specs.Prelude.{IsOk, OnOk, MatchResult}
+use Rattle.std.proofs.lemmas.List.{append-nil, append_assoc}
+use Rattle.classfile.specs.Methods.{Method}
 use Rattle.hierarchy.specs.Class.{ClassFact}
 use Rattle.hierarchy.specs.Answer.{Outcome, yes, no, missing}
-use Rattle.hierarchy.specs.Nearest.{is_guarded}
 use Rattle.insn.specs.Meanings.{Act}
-use Rattle.insn.specs.Offsets.{at_offset, led_to}
+use Rattle.insn.specs.Offsets.{led_to}
 use Rattle.frames.specs.FrameFact.{FrameFact}
 use Rattle.frames.specs.FrameAssignable.{frame_answer}
 use Rattle.frames.specs.Conditions.{Reason, reason, number_of, Conditions, lesser, least}
 use Rattle.rules.specs.TypingRules.{TypingRule, falls, offsets_of, targets}
 use Rattle.rules.specs.After.{after}
 use Rattle.rules.specs.Rules.{conditions, constructs_own}
-use Rattle.rules.specs.Protected.{Use, used_by, object_beneath, object_answer, object_conditions, use_conditions, member_conditions}
 use Rattle.rules.specs.Outcomes.{Done, Judges}
 use Rattle.rules.specs.declared.reason.Reason.{Reason as RuleReason}
 use Rattle.rules.specs.declared.reason.Reason.TheVariants.{OutOfMemory}
-use Rattle.rules.specs.Reasons.{reason_number, reason_view}
-use Rattle.rules.specs.Ways.{goes_on, branch_offsets}
-use Rattle.verify.specs.TypeSafety.{Frames, caught_frame}
-use Rattle.verify.specs.Verdict.{answer_conditions, declared_at, one_target, target_conditions, one_handler, handler_conditions, is_covered, before_conditions, at_conditions}
-use Rattle.verify.proofs.Going.{IsEarly, IsWay}
-use Rattle.rules.proofs.Lesser.{both_least, view_number, number_some}
+use Rattle.rules.specs.Reasons.{reason_view}
+use Rattle.rules.specs.Table.{typing_rule}
+use Rattle.rules.specs.Ways.{branch_offsets}
+use Rattle.verify.specs.TypeSafety.{Frames}
+use Rattle.verify.specs.Verdict.{answer_conditions, declared_at, one_target, target_conditions, is_covered, before_conditions, at_conditions}
+use Rattle.verify.specs.private.JudgingSteps.{aside_conditions, run_conditions}
+use Rattle.verify.proofs.Going.{IsCalm, IsEarly, ways}
+use Rattle.rules.proofs.Lesser.{both_least, judges_alone}
 
 -- ---- reasons that are not a rule's come late
 
@@ -79,152 +80,115 @@ targets_late classes frames f (t ∷ ts) =
     late_append (one_target classes (declared_at frames t) f) (target_conditions classes frames f ts) (target_late classes (declared_at frames t) f)
     (targets_late classes frames f ts)
 
-handler_late : (classes : List ClassFact) (o : Option FrameFact) (f : FrameFact) → AreLate (one_handler classes o f)
-handler_late classes None f = (omega arith, tt)
-handler_late classes (Some g) f = answer_late 73 (frame_answer classes f g) (omega arith)
-
-handlers_late : (classes : List ClassFact) (frames : Frames) (at : ℕ) (f : FrameFact) (es : List ExceptionEntry) → AreLate (handler_conditions classes frames at f es)
-handlers_late classes frames at f [] = tt
-handlers_late classes frames at f (e ∷ es) = late_append (one (covers e at)) (handler_conditions classes frames at f es) (late (covers e at)) (handlers_late classes frames at f es)
-  where
-    one : Bool → Conditions
-    one b = if b then one_handler classes (at_offset frames e.handler) (caught_frame e f) else []
-
-    late : (b : Bool) → AreLate (one b)
-    late true = handler_late classes (at_offset frames e.handler) (caught_frame e f)
-    late false = tt
-
-object_late : (answer : Outcome) → AreLate (object_conditions answer)
-object_late yes = (omega arith, (omega arith, tt))
-object_late no = (omega arith, (omega arith, tt))
-object_late (missing name) = (omega arith, (omega arith, tt))
-
-member_late : (classes : List ClassFact) (m : Method Act) (a : Act) (f : FrameFact) → AreLate (member_conditions classes m a f)
-member_late classes m a f = by (used_by m a)
-  where
-    one : (u : Use) (b : Bool) → AreLate (if b then object_conditions (object_answer classes m.class (object_beneath u f)) else [])
-    one u true = object_late (object_answer classes m.class (object_beneath u f))
-    one u false = tt
-
-    by : (o : Option Use) → AreLate (option_map_or (use_conditions classes m f) o [])
-    by None = tt
-    by (Some u) = one u (is_guarded classes m.class u.reference)
-
--- no reason has the number 0
-no_zero : (e : RuleReason) → Some (reason 0) ≡ Some (reason_view e) → ⊥
-no_zero e q = let same : reason 0 ≡ reason_view e = cc in
-    let zero : 0 ≡ reason_number e = ap number_of same ∙ view_number e in absurd (omega (arith, zero, number_some e))
-
 module _ (classes : List ClassFact) (m : Method Act) (frames : Frames) (at : ℕ) (f : FrameFact) (a : Act) where
-  -- ---- the parts of all that is asked
+  abbrev p : TypingRule
+  p = typing_rule m a
 
-  abbrev ways_of : TypingRule → List ℤ → Conditions
-  ways_of p ts = target_conditions classes frames (after m at p f) ts
+  abbrev rule : Conditions
+  rule = conditions classes m at p f
 
-  abbrev before : Conditions
-  before = before_conditions classes m frames at a f
+  abbrev ways_of : List ℤ → Conditions
+  ways_of ts = target_conditions classes frames (after m at p f) ts
 
-  -- the conditions besides those of the rule and of the targets
-  abbrev end : TypingRule → Bool → Conditions
-  end p b = before ++ ((reason 71, b) ∷ (reason 75, constructs_own p f && is_covered m.exceptions at) ∷ [])
+  abbrev all : Conditions
+  all = run_conditions classes m frames at a f
 
-  end_late : (p : TypingRule) (b : Bool) → AreLate (end p b)
-  end_late p b =
-      late_append before ((reason 71, b) ∷ (reason 75, constructs_own p f && is_covered m.exceptions at) ∷ [])
-      (late_append (member_conditions classes m a f) (handler_conditions classes frames at f m.exceptions) (member_late classes m a f) (handlers_late classes frames at f m.exceptions))
-      (omega arith, (omega arith, tt))
+  -- ---- where the instruction branches nowhere
 
-  -- an early reason of the rule is that of all
-  early_all : (p : TypingRule) (next : Option ℕ) (n : ℕ) → least (conditions classes m at p f) ≡ Some (reason n) → n < 67
-      → least (at_conditions classes m frames at a p next f) ≡ Some (reason n)
-  early_all p next n e lt =
-      let ts = ways_of p (targets at p) in
-      early_first (conditions classes m at p f) (ts ++ end p (falls p && is_none next)) n e lt
-      (late_append ts (end p (falls p && is_none next)) (targets_late classes frames (after m at p f) (targets at p)) (end_late p (falls p && is_none next)))
+  alone : offsets_of p ≡ [] → least rule ≡ least all
+  alone none = ap least (sym (append-nil rule)) ∙ ap (λ (z : List ℤ). least (rule ++ ways_of (led_to at z))) (sym none)
 
-  early_end : (p : TypingRule) (b : Bool) (n : ℕ) → least (conditions classes m at p f) ≡ Some (reason n) → n < 67
-      → least (conditions classes m at p f ++ end p b) ≡ Some (reason n)
-  early_end p b n e lt = early_first (conditions classes m at p f) (end p b) n e lt (end_late p b)
+  -- its rule alone decides
+  pub ran_nowhere : branch_offsets a ≡ [] → (g : FrameFact) (r : Result Unit RuleReason) → Done rule (after m at p f) g r → Done all (after m at p f) g r
+  ran_nowhere none g r d = by r d
+    where
+      same : least rule ≡ least all
+      same = alone (sym (ways m a).way.branches ∙ none)
 
-  -- ---- where the rule refuses
+      by : (r : Result Unit RuleReason) → Done rule (after m at p f) g r → Done all (after m at p f) g r
+      by (Ok u) d = record { outcome = (sym same ∙ d.outcome.0, d.outcome.1) }
+      by (Err e) d = record { outcome = told d.outcome }
+        where
+          told : (e ≡ OutOfMemory) ⊎ (least rule ≡ Some (reason_view e)) → (e ≡ OutOfMemory) ⊎ (least all ≡ Some (reason_view e))
+          told (inl z) = inl z
+          told (inr z) = inr (sym same ∙ z)
 
-  module _ (p : TypingRule) (x : IsWay a p) (last : Bool) (next : Option ℕ) (is : is_none next ≡ last) where
-    -- with no targets, the end is all that is asked besides
-    straight : offsets_of p ≡ [] → goes_on a ≡ falls p
-        → least (conditions classes m at p f ++ end p (goes_on a && last)) ≡ least (at_conditions classes m frames at a p next f)
-    straight o e =
-        ap (λ (z : Bool). least (conditions classes m at p f ++ end p (z && last))) e
-        ∙ ap (λ (z : Bool). least (conditions classes m at p f ++ end p (falls p && z))) (sym is)
-        ∙ ap (λ (z : List ℤ). least (conditions classes m at p f ++ (ways_of p z ++ end p (falls p && is_none next)))) (sym (ap (led_to at) o))
+  -- ---- where its rule refuses it
 
-    by_early : (n : ℕ) → least (conditions classes m at p f) ≡ Some (reason n) → n < 67
-        → least (conditions classes m at p f ++ end p (goes_on a && last)) ≡ least (at_conditions classes m frames at a p next f)
-    by_early n e lt = early_end p (goes_on a && last) n e lt ∙ sym (early_all p next n e lt)
+  pub ran_refused : (g : FrameFact) (e : RuleReason) → Done rule (after m at p f) g (Err e) → Done all (after m at p f) g (Err e)
+  ran_refused g e d = record { outcome = told d.outcome }
+    where
+      early : (r : Reason) → least rule ≡ Some r → IsEarly (least rule) → least all ≡ Some r
+      early r q (inl none) = let clash : Some r ≡ None = sym q ∙ none in absurd (cc)
+      early r q (inr x) = early_first rule (ways_of (targets at p)) x.0 x.1 x.2 (targets_late classes frames (after m at p f) (targets at p)) ∙ sym x.1 ∙ q
 
-    refused_alike : (least (conditions classes m at p f) ≡ None → ⊥)
-        → least (conditions classes m at p f ++ end p (goes_on a && last)) ≡ least (at_conditions classes m frames at a p next f)
-    refused_alike some = by x.calm
+      by : (r : Reason) → least rule ≡ Some r → (offsets_of p ≡ []) ⊎ IsCalm p → least all ≡ Some r
+      by r q (inl none) = sym (alone none) ∙ q
+      by r q (inr calm) = early r q (calm classes m at f)
+
+      told : (e ≡ OutOfMemory) ⊎ (least rule ≡ Some (reason_view e)) → (e ≡ OutOfMemory) ⊎ (least all ≡ Some (reason_view e))
+      told (inl z) = inl z
+      told (inr z) = inr (by (reason_view e) z (ways m a).calm)
+
+  -- ---- where its rule does not
+
+  pub ran_on : (g : FrameFact) (r : Result Unit RuleReason) → least rule ≡ None → g ≡ after m at p f
+      → Judges (target_conditions classes frames g (led_to at (branch_offsets a))) r → Done all (after m at p f) g r
+  ran_on g r e q j = by r j
+    where
+      same : least (target_conditions classes frames g (led_to at (branch_offsets a))) ≡ least all
+      same =
+          ap (λ (z : FrameFact). least (target_conditions classes frames z (led_to at (branch_offsets a)))) q
+          ∙ ap (λ (z : List ℤ). least (ways_of (led_to at z))) (ways m a).way.branches
+          ∙ sym (both_least rule (ways_of (targets at p)) None (least (ways_of (targets at p))) e refl)
+
+      by : (r : Result Unit RuleReason) → Judges (target_conditions classes frames g (led_to at (branch_offsets a))) r → Done all (after m at p f) g r
+      by (Ok u) j = record { outcome = (sym same ∙ j.outcome, q) }
+      by (Err e) j = record { outcome = told j.outcome }
+        where
+          told : (e ≡ OutOfMemory) ⊎ (least (target_conditions classes frames g (led_to at (branch_offsets a))) ≡ Some (reason_view e))
+              → (e ≡ OutOfMemory) ⊎ (least all ≡ Some (reason_view e))
+          told (inl z) = inl z
+          told (inr z) = inr (sym same ∙ z)
+
+  -- ---- with all that is asked of it besides
+
+  module _ (last : Bool) (next : Option ℕ) (is : is_none next ≡ last) where
+    abbrev aside : Conditions
+    aside = aside_conditions classes m frames at a last f
+
+    abbrev whole : Conditions
+    whole = at_conditions classes m frames at a p next f
+
+    same_whole : all ++ aside ≡ whole
+    same_whole =
+        append_assoc rule (ways_of (targets at p)) aside
+        ∙ ap (λ (b : Bool). rule ++ (ways_of (targets at p) ++ (before_conditions classes m frames at a f
+        ++ ((reason 71, b) ∷ (reason 75, constructs_own p f && is_covered m.exceptions at) ∷ []))))
+        (ap (λ (b : Bool). b && last) (ways m a).way.falls_on ∙ ap (λ (b : Bool). falls p && b) (sym is))
+
+    -- what is judged of both in turn, together
+    pub done_together : (g : FrameFact) (one other r : Result Unit RuleReason) → Done all (after m at p f) g one → Judges aside other
+        → ((cs ds : Conditions) → Judges cs one → Judges ds other → Judges (cs ++ ds) r) → OnOk r (IsOk one × IsOk other) → Done whole (after m at p f) g r
+    done_together g one other r d j both ok = subst (λ (cs : Conditions). Done cs (after m at p f) g r) same_whole (by r (both all aside (judged one d) j).outcome ok)
       where
-        calmly : IsEarly (least (conditions classes m at p f))
-            → least (conditions classes m at p f ++ end p (goes_on a && last)) ≡ least (at_conditions classes m frames at a p next f)
-        calmly (inl e) = absurd (some e)
-        calmly (inr r) = by_early r.0 r.1 r.2
+        judged : (one : Result Unit RuleReason) → Done all (after m at p f) g one → Judges all one
+        judged (Ok u) d = record { outcome = d.outcome.0 }
+        judged (Err e) d = record { outcome = d.outcome }
 
-        by : (offsets_of p ≡ []) ⊎ ((classes : List ClassFact) (m : Method Act) (at : ℕ) (f : FrameFact) → IsEarly (least (conditions classes m at p f)))
-            → least (conditions classes m at p f ++ end p (goes_on a && last)) ≡ least (at_conditions classes m frames at a p next f)
-        by (inl o) = straight o x.way.falls_on
-        by (inr calm) = calmly (calm classes m at f)
+        came : (one : Result Unit RuleReason) → Done all (after m at p f) g one → IsOk one → g ≡ after m at p f
+        came (Ok u) d ok = d.outcome.1
+        came (Err e) d ok = absurd (cc)
 
-    -- the reason that goes before, of the rule's and the end's
-    pub refused_end : (g : FrameFact) (e y : RuleReason) → (e ≡ OutOfMemory) ⊎ (least (conditions classes m at p f) ≡ Some (reason_view e))
-        → ((cs : Conditions) → Judges cs (Err e) → Judges (cs ++ end p (goes_on a && last)) (Err y))
-        → Done (at_conditions classes m frames at a p next f) (after m at p f) g (Err y)
-    refused_end g e y (inr q) all = record { outcome = by (all (conditions classes m at p f) (record { outcome = inr q })).outcome }
+        by : (r : Result Unit RuleReason) → MatchResult r (λ _. least (all ++ aside) ≡ None) (λ e. (e ≡ OutOfMemory) ⊎ (least (all ++ aside) ≡ Some (reason_view e)))
+            → OnOk r (IsOk one × IsOk other) → Done (all ++ aside) (after m at p f) g r
+        by (Ok u) e ok = record { outcome = (e, came one d ok.0) }
+        by (Err x) e ok = record { outcome = e }
+
+    -- where nothing is against it besides
+    pub done_alone : least aside ≡ None → (g : FrameFact) (r : Result Unit RuleReason) → Done all (after m at p f) g r → Done whole (after m at p f) g r
+    done_alone none g r d = subst (λ (cs : Conditions). Done cs (after m at p f) g r) same_whole (by r d)
       where
-        some : least (conditions classes m at p f) ≡ None → ⊥
-        some n = let clash : Some (reason_view e) ≡ None = sym q ∙ n in cc
-
-        by : (y ≡ OutOfMemory) ⊎ (least (conditions classes m at p f ++ end p (goes_on a && last)) ≡ Some (reason_view y))
-            → (y ≡ OutOfMemory) ⊎ (least (at_conditions classes m frames at a p next f) ≡ Some (reason_view y))
-        by (inl z) = inl z
-        by (inr z) = inr (sym (refused_alike some) ∙ z)
-    refused_end g e y (inl q) all = record { outcome = by (all (early_one) (record { outcome = inl q })).outcome }
-      where
-        early_one : Conditions
-        early_one = (reason 0, true) ∷ []
-
-        zero_first : (b : Bool) → least (early_one ++ end p b) ≡ Some (reason 0)
-        zero_first b = early_first early_one (end p b) 0 refl (omega arith) (end_late p b)
-
-        by : (y ≡ OutOfMemory) ⊎ (least (early_one ++ end p (goes_on a && last)) ≡ Some (reason_view y))
-            → (y ≡ OutOfMemory) ⊎ (least (at_conditions classes m frames at a p next f) ≡ Some (reason_view y))
-        by (inl z) = inl z
-        by (inr z) = absurd (no_zero y (sym (zero_first (goes_on a && last)) ∙ z))
-
-    -- ---- where it does not
-
-    pub done_ways : (g : FrameFact) (r : Result Unit RuleReason) → least (conditions classes m at p f) ≡ None → g ≡ after m at p f
-        → Judges (target_conditions classes frames g (led_to at (branch_offsets a)) ++ end p (goes_on a && last)) r
-        → Done (at_conditions classes m frames at a p next f) (after m at p f) g r
-    done_ways g r e q j = by r j
-      where
-        same : least (target_conditions classes frames g (led_to at (branch_offsets a)) ++ end p (goes_on a && last))
-            ≡ least (at_conditions classes m frames at a p next f)
-        same =
-            ap (λ (z : FrameFact). least (target_conditions classes frames z (led_to at (branch_offsets a)) ++ end p (goes_on a && last))) q
-            ∙ ap (λ (z : List ℤ). least (ways_of p (led_to at z) ++ end p (goes_on a && last))) x.way.branches
-            ∙ ap (λ (z : Bool). least (ways_of p (targets at p) ++ end p (z && last))) x.way.falls_on
-            ∙ ap (λ (z : Bool). least (ways_of p (targets at p) ++ end p (falls p && z))) (sym is)
-            ∙ sym (both_least (conditions classes m at p f) (ways_of p (targets at p) ++ end p (falls p && is_none next)) None
-            (least (ways_of p (targets at p) ++ end p (falls p && is_none next))) e refl)
-
-        by : (r : Result Unit RuleReason)
-            → Judges (target_conditions classes frames g (led_to at (branch_offsets a)) ++ end p (goes_on a && last)) r
-            → Done (at_conditions classes m frames at a p next f) (after m at p f) g r
-        by (Ok u) j = record { outcome = (sym same ∙ j.outcome, q) }
-        by (Err e) j = record { outcome = told j.outcome }
-          where
-            told : (e ≡ OutOfMemory) ⊎ (least (target_conditions classes frames g (led_to at (branch_offsets a)) ++ end p (goes_on a && last)) ≡ Some (reason_view e))
-                → (e ≡ OutOfMemory) ⊎ (least (at_conditions classes m frames at a p next f) ≡ Some (reason_view e))
-            told (inl z) = inl z
-            told (inr z) = inr (sym same ∙ z)
+        by : (r : Result Unit RuleReason) → Done all (after m at p f) g r → Done (all ++ aside) (after m at p f) g r
+        by (Ok u) d = record { outcome = (both_least all aside None None d.outcome.0 none, d.outcome.1) }
+        by (Err e) d = record { outcome = (judges_alone all aside e tt (record { outcome = d.outcome }) (record { outcome = none })).outcome }

@@ -1,5 +1,5 @@
 -- The pass, from one instruction to the next.
-use Rattle.std.proofs.Common.{◌≡◌, ℕ, ◌+◌, ◌<◌, Bool, true, false, is_none, nat_eq, List, [], ◌∷◌, ◌⊎◌, inl, inr, subst, Result, Ok, Err, Option, Some, length, refl, sym, ◌∙◌, ap, arith}
+use Rattle.std.proofs.Common.{◌≡◌, ℕ, ◌+◌, ◌<◌, Bool, true, false, is_none, nat_eq, List, [], ◌∷◌, ◌⊎◌, inl, inr, subst, Result, Ok, Err, Option, Some, None, length, refl, sym, ◌∙◌, ap, arith}
 use Rattle.std.proofs.lemmas.List.{length-append, nil_from_length}
 use Rattle.std.proofs.lemmas.Bool.Decides.{nat_tests}
 use Rattle.classfile.specs.Methods.{Method}
@@ -84,6 +84,12 @@ module _ (classes : List ClassFact) (m : Method Act) (frames : Frames) where
           let falls_as : goes ≡ falls (typing_rule m c.1) =
           k ∙ (ways m c.1).way.falls_on in
           opened ∙ ap (λ z. refused_or z c.0 on) done.0 ∙ ap (λ z. left cs z after_here) (sym falls_as) ∙ ap (left cs goes) (sym done.1)
+
+-- a frame that comes to a start where none is declared goes on as it is
+pub enters_straight : (classes : List ClassFact) (comes : Bool) (f : FrameFact) (declared : Option FrameFact) → comes ≡ true → declared ≡ None → Enters classes comes f declared f (Ok tt)
+enters_straight classes true f None e q = record { outcome = (refl, refl) }
+enters_straight classes true f (Some g) e q = absurd (cc)
+enters_straight classes false f declared e q = absurd (cc)
 
 -- ---- the bytes that are left
 

@@ -1,6 +1,5 @@
 -- An instruction of which nothing is asked but its rule and its targets.
-use Rattle.std.proofs.Common.{◌≡◌, ◌∙◌, ℕ, Bool, true, false, ◌&&◌, List, ◌∷◌, [], Option, None, Ok, refl, ap}
-use Rattle.std.specs.Option.{option_map_or}
+use Rattle.std.proofs.Common.{◌≡◌, ◌∙◌, ℕ, Bool, true, false, ◌&&◌, is_some, List, ◌∷◌, [], Option, Some, None, refl, ap}
 use Rattle.classfile.specs.Methods.{Method}
 use Rattle.hierarchy.specs.Class.{ClassFact}
 use Rattle.insn.specs.Meanings as acts
@@ -8,8 +7,7 @@ use Rattle.insn.specs.Meanings.{Act}
 use Rattle.frames.specs.FrameFact.{FrameFact}
 use Rattle.frames.specs.Conditions.{reason, least}
 use Rattle.rules.specs.Naming.{names_bootstrapped, sets_own}
-use Rattle.rules.specs.Outcomes.{Judges}
-use Rattle.rules.specs.Protected.{Use, used_by, use_conditions, member_conditions}
+use Rattle.rules.specs.Protected.{member_conditions}
 use Rattle.rules.specs.Rules.{constructs_own}
 use Rattle.rules.specs.Table.{typing_rule}
 use Rattle.rules.specs.Ways.{goes_on, special_index}
@@ -19,17 +17,16 @@ use Rattle.verify.specs.TypeSafety.{Frames}
 use Rattle.verify.specs.Verdict.{before_conditions, handler_conditions, is_covered}
 use Rattle.verify.specs.private.JudgingSteps.{aside_conditions}
 use Rattle.verify.specs.private.pass.Alone.{asks_no_more}
-use Rattle.verify.proofs.Plain.{no_end, not_last}
+use Rattle.verify.specs.private.pass.Objects.{used_index, AnswersUse}
+use Rattle.verify.proofs.numbered.Objects.{none_asked}
 
-uses_none : (m : Method Act) (a : Act) → asks_no_more a ≡ true → used_by m a ≡ None
-uses_none m (acts.GetField i) e = cc
-uses_none m (acts.PutField i) e = cc
-uses_none m (acts.InvokeVirtual i) e = cc
-uses_none m a e = refl
+-- ---- what asks no more
 
-calls_none : (a : Act) → asks_no_more a ≡ true → special_index a ≡ None
-calls_none (acts.InvokeSpecial i) e = cc
-calls_none a e = refl
+pub uses_none : (a : Act) → asks_no_more a ≡ true → used_index a ≡ None
+uses_none (acts.GetField i) e = cc
+uses_none (acts.PutField i) e = cc
+uses_none (acts.InvokeVirtual i) e = cc
+uses_none a e = refl
 
 pub sets_none : (m : Method Act) (a : Act) → asks_no_more a ≡ true → false ≡ sets_own m a
 sets_none m (acts.PutField i) e = cc
@@ -41,21 +38,33 @@ names_none m (acts.LoadWideConstant i) e = cc
 names_none m (acts.InvokeDynamic i) e = cc
 names_none m a e = refl
 
-module _ (classes : List ClassFact) (m : Method Act) (frames : Frames) (at : ℕ) (f : FrameFact) (a : Act) (alone : asks_no_more a ≡ true)
-    (idle : least (handler_conditions classes frames at f m.exceptions) ≡ None) (last : Bool) (goes : last ≡ false) where
-  constructs_none : constructs_own (typing_rule m a) f ≡ false
-  constructs_none = own_by_index m a f ∙ ap (own_of_index m f) (calls_none a alone)
+-- ---- nothing is against it
 
-  before_none : least (before_conditions classes m frames at a f) ≡ None
-  before_none =
-      both_least (member_conditions classes m a f) (handler_conditions classes frames at f m.exceptions) None None
-      (ap (λ (o : Option Use). least (option_map_or (use_conditions classes m f) o [])) (uses_none m a alone)) idle
+-- no call of a constructor is covered
+pub uncalled : (a : Act) (b : Bool) → special_index a ≡ None → (is_some (special_index a) && b) ≡ false
+uncalled a b none = ap (λ o. is_some o && b) none
 
-  -- nothing else is against it
-  pub aside_none : Judges (aside_conditions classes m frames at a last f) (Ok tt)
-  aside_none =
-      let covered = constructs_own (typing_rule m a) f && is_covered m.exceptions at in
-      record {
-        outcome = both_least (before_conditions classes m frames at a f) ((reason 71, goes_on a && last) ∷ (reason 75, covered) ∷ []) None None before_none
-            (no_end (goes_on a && last) covered (not_last (goes_on a) last goes) (ap (λ b. b && is_covered m.exceptions at) constructs_none));
-      }
+no_end : (b c : Bool) → b ≡ false → c ≡ false → least ((reason 71, b) ∷ (reason 75, c) ∷ []) ≡ None
+no_end true c e h = cc
+no_end false true e h = cc
+no_end false false e h = refl
+
+module _ (classes : List ClassFact) (m : Method Act) (frames : Frames) (at : ℕ) (f : FrameFact) (a : Act) (last : Bool) where
+  uncovered : (is_some (special_index a) && is_covered m.exceptions at) ≡ false → (constructs_own (typing_rule m a) f && is_covered m.exceptions at) ≡ false
+  uncovered free = ap (λ b. b && is_covered m.exceptions at) (own_by_index m a f) ∙ by (special_index a) (is_covered m.exceptions at) free
+    where
+      never : (x : Bool) → (x && false) ≡ false
+      never true = refl
+      never false = refl
+
+      by : (o : Option ℕ) (b : Bool) → (is_some o && b) ≡ false → (own_of_index m f o && b) ≡ false
+      by None b free = refl
+      by (Some i) true free = cc
+      by (Some i) false free = never (own_of_index m f (Some i))
+
+  pub aside_none : AnswersUse classes m a false → least (handler_conditions classes frames at f m.exceptions) ≡ None → (goes_on a && last) ≡ false
+      → (is_some (special_index a) && is_covered m.exceptions at) ≡ false → least (aside_conditions classes m frames at a last f) ≡ None
+  aside_none unguarded idle ends free =
+      both_least (before_conditions classes m frames at a f) _ None None
+      (both_least (member_conditions classes m a f) (handler_conditions classes frames at f m.exceptions) None None (ap least (none_asked classes m a f unguarded)) idle)
+      (no_end (goes_on a && last) (constructs_own (typing_rule m a) f && is_covered m.exceptions at) ends (uncovered free))

@@ -1,6 +1,5 @@
 -- Objects on which members are used, by their numbers.
 use Rattle.std.proofs.Common.{◌≡◌, ◌∙◌, ℕ, Bool, zero, suc, true, false, if◌then◌else◌, List, [], ◌∷◌, Option, Some, None, option_map, drop, slice_get, refl, sym, ap, subst}
-use Rattle.std.specs.Prelude.{MatchOption}
 use Rattle.std.specs.Option.{option_and_then, option_map_or}
 use Rattle.names.specs.Descriptors.{FieldDescriptor}
 use Rattle.names.specs.ReferenceTypes.{ReferenceType, class_type, array_type}
@@ -11,6 +10,7 @@ use Rattle.classfile.specs.declared.code_method.CodeMethod.{CodeMethod}
 use Rattle.hierarchy.specs.Class.{ClassFact}
 use Rattle.hierarchy.specs.Answer.{no}
 use Rattle.hierarchy.specs.Nearest.{MemberReference, is_guarded}
+use Rattle.insn.specs.Meanings as acts
 use Rattle.insn.specs.Meanings.{Act}
 use Rattle.frames.specs.FrameFact.{FrameFact}
 use Rattle.frames.specs.VerificationType.{VerificationType, top, int, float, long, double, null, class, array, uninit_this, uninit}
@@ -23,7 +23,7 @@ use Rattle.rules.specs.Bodies.{method_view}
 use Rattle.rules.specs.Guards.{IsReference, Surroundings, Uses, field, method, own_name}
 use Rattle.rules.specs.declared.protected_members.Use as uses
 use Rattle.rules.specs.Protected.{Use, field_use, method_reference, method_use, member_conditions, object_answer, object_beneath, object_conditions, use_conditions, used_by}
-use Rattle.verify.specs.private.pass.Objects.{is_array_type, UsesAt, UsesNoneGuarded, UsesGuarded}
+use Rattle.verify.specs.private.pass.Objects.{is_array_type, used_index, AnswersUse, UsesGuarded}
 
 -- the item that so many stand above
 pub item_is : (s : Numbering) (stack : List ℕ) (above n : ℕ) → Some n ≡ slice_get stack above → type_by s n ≡ top_of (drop above (types_by s stack))
@@ -93,8 +93,23 @@ module _ (m : Method Act) (i : ℕ) (u : Use) where
       by None q h = absurd (cc)
       by (Some c) q h = called_by c q c.interface refl c.class refl h
 
+-- that of the constant at the index
+used_at : (m : Method Act) (a : Act) (i : ℕ) → used_index a ≡ Some i → (u : Use) → used_by m a ≡ Some u → IsReference m.constant_pool i u.reference
+used_at m (acts.GetField j) i at u e = let same : j ≡ i = cc in subst (λ k. IsReference m.constant_pool k u.reference) same (field_used m j u (λ f. []) e)
+used_at m (acts.PutField j) i at u e =
+    let same : j ≡ i = cc in subst (λ k. IsReference m.constant_pool k u.reference) same (field_used m j u (λ (f : FieldConstant). f.type ∷ []) e)
+used_at m (acts.InvokeVirtual j) i at u e = let same : j ≡ i = cc in subst (λ k. IsReference m.constant_pool k u.reference) same (method_used m j u e)
+used_at m a i at u e = absurd (cc)
+
+-- none where there is no index
+pub unused : (classes : List ClassFact) (m : Method Act) (a : Act) (b : Bool) → used_index a ≡ None → AnswersUse classes m a b
+unused classes m (acts.GetField i) b none u e = absurd (cc)
+unused classes m (acts.PutField i) b none u e = absurd (cc)
+unused classes m (acts.InvokeVirtual i) b none u e = absurd (cc)
+unused classes m a b none u e = absurd (cc)
+
 -- nothing is asked where no guarded member is used
-pub none_asked : (classes : List ClassFact) (m : Method Act) (a : Act) (f : FrameFact) → UsesNoneGuarded classes m a → member_conditions classes m a f ≡ []
+pub none_asked : (classes : List ClassFact) (m : Method Act) (a : Act) (f : FrameFact) → AnswersUse classes m a false → member_conditions classes m a f ≡ []
 none_asked classes m a f free = by (used_by m a) refl
   where
     by : (o : Option Use) → used_by m a ≡ o → option_map_or (use_conditions classes m f) o [] ≡ []
@@ -102,20 +117,13 @@ none_asked classes m a f free = by (used_by m a) refl
     by (Some u) q = ap (λ b. if b then object_conditions (object_answer classes m.class (object_beneath u f)) else []) (free u q)
 
 -- the answer about the constant at the index is that about the member that the instruction uses
-module _ (around : Surroundings) (method : CodeMethod) (a : Act) (i : ℕ) (index : Option ℕ) (same : around.class ≡ method.class.now) (at : UsesAt (method_view method) a index)
-    (there : index ≡ Some i) where
-  asked : (u : Use) → used_by (method_view method) a ≡ Some u → IsReference around.class.constant_pool i u.reference
-  asked u e =
-      let found = subst (λ (o : Option ℕ). MatchOption o (Some u ≡ None) (λ k. IsReference method.class.now.constant_pool k u.reference)) there (at u e) in
-      subst (λ (class : ClassFile). IsReference class.constant_pool i u.reference) (sym same) found
+pub answers_use : (around : Surroundings) (body : CodeMethod) (a : Act) (i : ℕ) → around.class ≡ body.class.now → used_index a ≡ Some i → (b : Bool)
+    → ((r : MemberReference) → IsReference around.class.constant_pool i r → b ≡ is_guarded around.classes (own_name around.class) r) → AnswersUse around.classes (method_view body) a b
+answers_use around body a i same there b answer u e =
+    let asked = subst (λ (class : ClassFile). IsReference class.constant_pool i u.reference) (sym same) (used_at (method_view body) a i there u e) in
+    ap (λ (class : ClassFile). is_guarded around.classes (own_name class) u.reference) (sym same) ∙ sym (answer u.reference asked)
 
-  module _ (b : Bool) (answer : (r : MemberReference) → IsReference around.class.constant_pool i r → b ≡ is_guarded around.classes (own_name around.class) r) where
-    answered : (u : Use) → used_by (method_view method) a ≡ Some u → is_guarded around.classes (method_view method).class u.reference ≡ b
-    answered u e = ap (λ (class : ClassFile). is_guarded around.classes (own_name class) u.reference) (sym same) ∙ sym (answer u.reference (asked u e))
-
-    pub none_guarded : b ≡ false → UsesNoneGuarded around.classes (method_view method) a
-    none_guarded free u e = answered u e ∙ free
-
-    pub guarded_by : b ≡ true → (u : Option uses.Use) → Uses (method_view method) a u → UsesGuarded around.classes (method_view method) a u
-    guarded_by guarded None none = λ u e. absurd (cc)
-    guarded_by guarded (Some u) is = (is, answered is.member is.used ∙ guarded)
+-- the member that is used, where it is guarded
+pub guarded_by : (classes : List ClassFact) (m : Method Act) (a : Act) → AnswersUse classes m a true → (u : Option uses.Use) → Uses m a u → UsesGuarded classes m a u
+guarded_by classes m a guarded None none = λ u e. absurd (cc)
+guarded_by classes m a guarded (Some u) is = (is, guarded is.member is.used)

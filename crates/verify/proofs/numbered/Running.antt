@@ -1,6 +1,6 @@
 -- The running frame is another, and nothing else is.
 use Rattle.std.proofs.Common.{◌≡◌, ◌∙◌, ℕ, ℤ, Bool, length, List, Option, Result, Ok, Err, refl, sym, ap, subst}
-use Rattle.std.specs.Prelude.{IsOk, OnOk}
+use Rattle.std.specs.Prelude.{IfOk, IsOk, OnOk}
 use Rattle.classfile.specs.Methods.{Method, ExceptionEntry}
 use Rattle.insn.specs.Meanings.{Act}
 use Rattle.insn.specs.Offsets.{at_offset}
@@ -50,6 +50,7 @@ follows_on old now r es at h k =
       few = k.few;
       within = k.within;
       reached = k.reached;
+      later = k.later;
       settled = λ place one o. let so = k.settled place one o in record { stands = so.stands; comes = so.comes };
       representatives = k.representatives;
     } in
@@ -72,12 +73,13 @@ module _ (old now : NumberedFrames) (r : IsOnward old now) where
   pub numbers_to : (m : Method Act) (x : RuleNumbers) → AreRuleNumbers old.types m x → AreRuleNumbers now.types m x
   numbers_to m x k = subst (λ (y : NumberedFrames). AreRuleNumbers y.types m x) (sym r.others) k
 
-  pub same_classes : now.types.classes ≡ old.types.classes
-  same_classes = ap (λ (y : NumberedFrames). y.types.classes) r.others
-
 pub when_ok : {T E : Type 0} (P : Type 0) (r : Result T E) → IsOk r → OnOk r P → P
 when_ok P (Ok x) e p = p
 when_ok P (Err x) e p = cc
+
+pub if_ok : {T E : Type 0} (P Q : T → Type 0) (r : Result T E) → ((x : T) → P x → Q x) → IfOk r P → IfOk r Q
+if_ok P Q (Ok x) f p = f x p
+if_ok P Q (Err e) f p = tt
 
 -- a property that follows from each answer that is no refusal
 pub on_ok : {T E : Type 0} {P : Type 0} (r : Result T E) → ((x : T) → r ≡ Ok x → P) → OnOk r P

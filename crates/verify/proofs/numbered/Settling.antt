@@ -185,6 +185,7 @@ module _ (x : NumberedFrames) where
     few = k.few;
     within = k.within;
     reached = record { started = k.reached.started; last = k.reached.last };
+    later = k.later;
     settled = λ place one o.
         let was : IsOpen at h.settled h place one = record { early = o.early; here = o.here; lasts = o.lasts } in
         record {
@@ -207,6 +208,7 @@ follows_later x es at later h le k = record {
     started = λ place one lt here. let so = k.reached.started place one lt here in let starts = so.0 in (omega (arith, starts, le), so.1);
     last = k.reached.last;
   };
+  later = k.later;
   settled = λ place one o. k.settled place one (let lasts = o.lasts in record { early = o.early; here = o.here; lasts = omega (arith, lasts, le) });
   representatives = k.representatives;
 }
@@ -222,6 +224,7 @@ follows_dropped x es at h rs are same k = record {
   few = k.few;
   within = k.within;
   reached = record { started = k.reached.started; last = k.reached.last };
+  later = k.later;
   settled = λ place one o.
       let so = k.settled place one (record { early = o.early; here = o.here; lasts = o.lasts }) in
       let stands = so.stands in
@@ -249,6 +252,7 @@ follows_settled x es at h rs n more lt are grows here k = record {
   few = omega (arith, more, lt);
   within = k.within;
   reached = record { started = k.reached.started; last = k.reached.last };
+  later = k.later;
   settled = λ place one o. by place one o (cases_lt place h.settled);
   representatives = are;
 }

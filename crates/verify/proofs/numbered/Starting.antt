@@ -12,7 +12,7 @@ use Rattle.verify.specs.Verdict.{is_covered}
 use Rattle.verify.specs.declared.pass.handlers.Handler.{Handler}
 use Rattle.verify.specs.declared.pass.handlers.Handlers.{Handlers}
 use Rattle.verify.specs.private.pass.Representatives.{AreRepresentatives}
-use Rattle.verify.specs.private.pass.Following.{IsHandler, AreHandlers, IsOpen, Follows, AreAhead}
+use Rattle.verify.specs.private.pass.Following.{IsHandler, AreHandlers, IsOpen, Follows, AreAhead, AreFrom}
 use Rattle.verify.proofs.numbered.Following.{has_entry, covered_by, covered_by_none, begun_covers, covered_starts, covered_ends}
 use Rattle.verify.proofs.numbered.Representing.{some_same}
 
@@ -53,14 +53,15 @@ greater_of a b c is = elim (cases_lt a b) [
 
 -- before the first instruction
 pub follows_first : (x : NumberedFrames) (es : List ExceptionEntry) (h : Handlers) → AreHandlers x.types x.declared es h.table.items → IsPermutation h.table.items h.by_start.items
-    → IsNonDecreasingBy (λ (one : Handler). one.from) h.by_start.items → h.begun ≡ 0 → h.settled ≡ 0 → h.reach ≡ 0 → AreRepresentatives x.declared h.representatives → Follows x es 0 h
-follows_first x es h a moved rises begun settled reach are = record {
+    → IsNonDecreasingBy (λ (one : Handler). one.from) h.by_start.items → h.begun ≡ 0 → h.settled ≡ 0 → h.reach ≡ 0 → h.next_start ≡ 0 → AreRepresentatives x.declared h.representatives → Follows x es 0 h
+follows_first x es h a moved rises begun settled reach next are = record {
   entries = a;
   moved = moved;
   rises = rises;
   few = omega (arith, begun, settled);
   within = omega (arith, begun);
   reached = record { started = λ place one lt here. absurd (omega (arith, lt, begun)); last = inl reach };
+  later = λ place one behind here. omega (arith, next);
   settled = λ place one o. absurd (let early = o.early in omega (arith, early, settled));
   representatives = are;
 }
@@ -154,6 +155,25 @@ module _ (x : NumberedFrames) (es : List ExceptionEntry) (at : ℕ) (h : Handler
         | inr same ↦ inr (h.begun, one, omega (arith, more), here, sym same)
       ];
     };
+    later = λ place other behind there. k.later place other (omega (arith, behind, more)) there;
     settled = λ place other o. k.settled place other (record { early = o.early; here = o.here; lasts = o.lasts });
     representatives = k.representatives;
   }
+
+  -- where the next one begins
+  pub follows_from : (start : ℕ) → AreFrom start h → Follows x es at (record h { next_start = start })
+  follows_from start from = record {
+    entries = k.entries;
+    moved = k.moved;
+    rises = k.rises;
+    few = k.few;
+    within = k.within;
+    reached = record { started = k.reached.started; last = k.reached.last };
+    later = from;
+    settled = λ place other o. k.settled place other (record { early = o.early; here = o.here; lasts = o.lasts });
+    representatives = k.representatives;
+  }
+
+  -- the offset lies before it
+  pub ahead_of : at < h.next_start → AreAhead at h
+  ahead_of lt place one behind there = let from = k.later place one behind there in omega (arith, lt, from)

@@ -12,15 +12,17 @@ use Rattle.rules.specs.declared.reason.Reason.{Reason}
 use Rattle.rules.specs.declared.reason.Reason.TheVariants.{OutOfMemory, BadCode}
 use Rattle.rules.specs.Reasons.{reason_view}
 use Rattle.rules.specs.ReasonNumbers.{falls_off, constructor_covered}
-use Rattle.rules.specs.Rules.{constructs_own}
+use Rattle.rules.specs.After.{after}
+use Rattle.rules.specs.Rules.{conditions, constructs_own}
 use Rattle.rules.specs.Table.{typing_rule}
+use Rattle.rules.specs.TypingRules.{targets}
 use Rattle.rules.specs.Ways.{goes_on}
 use Rattle.verify.specs.declared.verdict.Verdict.{Verdict}
 use Rattle.verify.specs.declared.verdict.Verdict.TheVariants.{Verified, NoCode, Refused}
 use Rattle.verify.specs.declared.verdict.VerifyFault.{VerifyFault}
 use Rattle.verify.specs.declared.verdict.VerifyFault.TheVariants as faults
 use Rattle.verify.specs.Verdict as verdicts
-use Rattle.verify.specs.Verdict.{verified, told_of, entry, entered, before_conditions, is_covered}
+use Rattle.verify.specs.Verdict.{verified, told_of, entry, entered, before_conditions, is_covered, target_conditions}
 use Rattle.verify.specs.TypeSafety.{Frames}
 use Rattle.verify.specs.Answers.{place_of}
 
@@ -46,6 +48,12 @@ Gives v (Ok NoCode) = ⊥
 Gives v (Ok (Refused at why)) = told_of v ≡ Some (at, reason_view why)
 Gives v (Err faults.OutOfMemory) = Unit {0}
 Gives v (Err faults.NotInHierarchy) = ⊥
+
+-- the conditions on an instruction by its rule and its targets
+abbrev pub run_conditions : List ClassFact → Method Act → Frames → ℕ → Act → FrameFact → Conditions
+run_conditions classes m frames at a f =
+    let p = typing_rule m a in
+    conditions classes m at p f ++ target_conditions classes frames (after m at p f) (targets at p)
 
 -- the conditions on an instruction besides its rule and its targets: those on the frame before it; that it does not go
 -- on where it is the last one; and that no entry of the exception table covers it where it calls a constructor on the

@@ -1,5 +1,5 @@
 //! The frame that comes to an instruction, and the one that is declared there.
-ghost use Rattle.std.specs.Prelude.{◌≡◌, ◌<◌, length, Some};
+ghost use Rattle.std.specs.Prelude.{◌≡◌, ◌<◌, true, length, Some, None, IsTrue};
 ghost use Rattle.insn.specs.Offsets.{at_offset};
 ghost use Rattle.method_frames.specs.MapFrames.{frames_by};
 ghost use Rattle.method_frames.specs.NumberedFrames.{frame_by, declared_frame};
@@ -48,8 +48,18 @@ fn take_on<'n, C: Classes>(
     Ok(())
 }
 
+/// Whether a frame comes to a start at which none is declared, so that it goes on as it is.
+#[inline(always)]
+pub fn goes_straight<C: Classes>(at: u16, comes: bool, frames: &MethodFrames<'_, '_, '_, C>) -> bool
+    ensures { IsTrue result → (comes ≡ true)
+        × (at_offset (frames_by frames.now.types frames.now.declared) at ≡ None) }
+{
+    comes && declared_in(at, frames).is_none()
+}
+
 /// The running frame, if one comes to a start, becomes the one that is declared there, if one is: 69 and 77 by their
 /// comparison, and 70 where none comes and none is declared; or 1 where memory runs out.
+#[inline(never)]
 pub fn enter<'n, C: Classes>(
     at: u16,
     comes: bool,

@@ -9,7 +9,7 @@ ghost use Rattle.numbered_rules.specs.Held.{held};
 ghost use Rattle.rules.specs.Outcomes.{Judges};
 ghost use Rattle.verify.specs.Verdict.{handler_conditions, is_covered};
 ghost use Rattle.verify.specs.private.InTurn.{IsJudgedInTurn};
-ghost use Rattle.verify.specs.private.pass.Following.{IsHandler, AreHandlers, IsTaken, IsUnchanged, IsOfEntry, AreBegunTaken, Follows, AreAhead, one_handler_at, is_covering, refuses};
+ghost use Rattle.verify.specs.private.pass.Following.{IsHandler, AreHandlers, IsTaken, IsUnchanged, IsOfEntry, AreBegunTaken, Follows, AreAhead, AreFrom, one_handler_at, is_covering, refuses};
 
 use crate::flow::check_answer;
 use crate::pass::representatives::Representatives;
@@ -184,6 +184,8 @@ pub struct Handlers {
     settled: usize,
     // The offset behind the last instruction that one of those covers whose ranges have begun, in bytes; 0 at first.
     reach: u16,
+    // No range that has not begun begins before this offset.
+    next_start: u16,
     // Whether the own object was uninitialized in the frame that was kept.
     flag: bool,
     // For the frames at the handlers of the entries that were compared, as long as these cover instructions.
@@ -208,6 +210,7 @@ impl Handlers {
             begun: 0,
             settled: 0,
             reach: 0,
+            next_start: 0,
             flag: false,
             representatives: Representatives::new(alloc),
         })
@@ -229,8 +232,20 @@ impl Handlers {
         Some(handler)
     }
 
-    /// Comes to an offset: the entries whose ranges have begun there are to be compared.
-    pub fn come_to(&mut self, at: u16)
+    /// The offset at which the next range begins, or the greatest one where all have begun.
+    fn start_of_next(&self) -> u16
+        ensures { (x : NumberedFrames) (es : List ExceptionEntry) (before : ℕ) → Follows x es before self.now
+            → AreFrom result self.now }
+    {
+        if self.begun >= self.by_start.len() {
+            return u16::MAX;
+        }
+        self.by_start[self.begun].from
+    }
+
+    /// Comes to an offset where a range begins, or where it is not known that none does.
+    #[inline(never)]
+    fn begin(&mut self, at: u16)
         ensures { (x : NumberedFrames) (es : List ExceptionEntry) → Follows x es at self.old
             → Follows x es at self.new × AreAhead at self.new }
     {
@@ -238,9 +253,22 @@ impl Handlers {
             self.reach = self.reach.max(handler.to);
             self.begun += 1;
         }
+        self.next_start = self.start_of_next();
+    }
+
+    /// Comes to an offset: the entries whose ranges have begun there are to be compared.
+    #[inline(always)]
+    pub fn come_to(&mut self, at: u16)
+        ensures { (x : NumberedFrames) (es : List ExceptionEntry) → Follows x es at self.old
+            → Follows x es at self.new × AreAhead at self.new }
+    {
+        if at >= self.next_start {
+            self.begin(at);
+        }
     }
 
     /// Whether an entry covers the offset to which the pass has come.
+    #[inline(always)]
     pub fn covers(&self, at: u16) -> bool
         ensures { (x : NumberedFrames) (es : List ExceptionEntry) → Follows x es at self.now → AreAhead at self.now
             → result ≡ is_covered es at }
@@ -248,7 +276,18 @@ impl Handlers {
         at < self.reach
     }
 
+    /// Whether all entries that have begun were compared with the frame.
+    #[inline(never)]
+    fn are_settled<C: Classes>(&self, frames: &MethodFrames<'_, '_, '_, C>) -> bool
+        ensures { let x = frames.now in IsTrue result → (es : List ExceptionEntry) (at : ℕ) → Follows x es at self.now
+            → AreAhead at self.now
+            → least (handler_conditions x.types.classes (frames_by x.types x.declared) at (held x) es) ≡ None }
+    {
+        self.settled == self.begun && is_unchanged(self.flag, frames)
+    }
+
     /// Whether nothing is to be compared at an offset: no entry covers it, or all that do were compared with the frame.
+    #[inline(always)]
     pub fn are_idle<C: Classes>(&self, at: u16, frames: &MethodFrames<'_, '_, '_, C>) -> bool
         ensures { let x = frames.now in IsTrue result → (es : List ExceptionEntry) → Follows x es at self.now
             → AreAhead at self.now
@@ -257,7 +296,7 @@ impl Handlers {
         if !self.covers(at) {
             return true;
         }
-        self.settled == self.begun && is_unchanged(self.flag, frames)
+        self.are_settled(frames)
     }
 
     /// Whether the frames of all handlers that were compared, as long as their entries last, take what changed since.

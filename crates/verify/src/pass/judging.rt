@@ -1,28 +1,30 @@
-//! One instruction.
-ghost use Rattle.std.specs.Prelude.{◌≡◌, ℕ, Bool, Option, is_none, length, OnOk, IsOk};
+//! One instruction, and the way in which it is judged.
+ghost use Rattle.std.specs.Prelude.{◌≡◌, ◌&&◌, ℕ, [], Option, is_none, length, IsTrue, OnOk};
 ghost use Rattle.insn.specs.Views.{act_view};
 ghost use Rattle.method_frames.specs.MapFrames.{frames_by};
 ghost use Rattle.numbered_rules.specs.Held.{held, IsRunning};
 ghost use Rattle.rules.specs.After.{after};
 ghost use Rattle.rules.specs.Bodies.{method_view};
 ghost use Rattle.rules.specs.Naming.{names_bootstrapped, sets_own};
-ghost use Rattle.rules.specs.Outcomes.{Done, Judges};
+ghost use Rattle.rules.specs.Outcomes.{Done};
 ghost use Rattle.rules.specs.Table.{typing_rule};
+ghost use Rattle.rules.specs.Ways.{branch_offsets, goes_on};
 ghost use Rattle.verify.specs.Verdict.{at_conditions};
-ghost use Rattle.verify.specs.private.JudgingSteps.{aside_conditions};
+ghost use Rattle.verify.specs.private.JudgingSteps.{run_conditions};
 ghost use Rattle.numbered_rules.specs.Running.{AreRuleNumbers};
 ghost use Rattle.verify.specs.private.pass.Following.{Follows, AreAhead, IsOnward};
-ghost use Rattle.verify.specs.private.pass.Alone.{asks_no_more};
+ghost use Rattle.verify.specs.private.pass.Alone.{asks_no_more, IsWay};
 
 use crate::flow::check_end;
 use crate::pass::handlers::Handlers;
-use crate::pass::members::{check_member, covers_constructor, facts_of};
+use crate::pass::members::{check_member, covers_constructor, facts_of, is_covered_call, look_up};
 use crate::pass::targets::check_targets;
+use classfile::CodeMethod;
 use hierarchy::Classes;
-use insn::Act;
+use insn::{Act, Branches};
 use method_frames::MethodFrames;
-use numbered_rules::{Body, NamedFacts, run, run_plain};
-use rules::{ClassConstants, Reason, branches_by, first_reason, goes_on, is_plain, together};
+use numbered_rules::{Body, NamedFacts, run};
+use rules::{ClassConstants, Reason, branches_by, goes_on, is_plain, together};
 use std::alloc::Global;
 
 /// The facts about what an instruction names that sets no field of its own class in a constructor, and names no Dynamic
@@ -32,15 +34,33 @@ const NO_FACTS: NamedFacts = NamedFacts {
     bootstrapped: true,
 };
 
+/// The way in which an instruction is judged.
+pub enum Way {
+    /// By its rule: it is plain, and nothing else is asked of it.
+    Plain,
+    /// By its rule and its targets, with these facts about what it names: nothing else is asked of it.
+    Named(NamedFacts),
+    /// By all that is asked of it.
+    Wholly,
+}
+
+/// Whether an instruction branches nowhere.
+#[inline(always)]
+fn goes_nowhere(act: &Act<'_>) -> bool
+    ensures { IsTrue result → branch_offsets (act_view act.now) ≡ [] }
+{
+    matches!(branches_by(act), Branches::Nowhere)
+}
+
 /// Judges an instruction with this act, in the frame before it, which becomes the frame after: by its rule and its
-/// targets, with the reason that `aside` may hold. It does not judge the frame at the next instruction.
-fn judge_named<'a, C: Classes>(
+/// targets.
+#[inline(never)]
+pub fn judge_named<'a, C: Classes>(
     alloc: Global,
     body: &Body<'_, 'a>,
     at: u16,
     act: &Act<'a>,
     facts: NamedFacts,
-    aside: Result<(), Reason<'a>>,
     frames: &mut MethodFrames<'_, '_, 'a, C>,
 ) -> Result<(), Reason<'a>>
     requires locals { length frames.old.running.locals ≡ body.now.method.now.code.now.max_locals }
@@ -48,24 +68,24 @@ fn judge_named<'a, C: Classes>(
     requires own { facts.own ≡ sets_own (method_view body.now.method.now) (act_view act.now) }
     requires bootstrapped { facts.bootstrapped
         ≡ names_bootstrapped (method_view body.now.method.now) (act_view act.now) }
-    ensures judged { (last : Bool) (next : Option ℕ) → is_none next ≡ last →
-        let s = frames.old.types in let fs = frames_by s frames.old.declared in
-        let m = method_view body.now.method.now in let f = held frames.old in
-        let a = act_view act.now in let p = typing_rule m a in
-        Judges (aside_conditions s.classes m fs at a last f) aside.entry
-        → Done (at_conditions s.classes m fs at a p next f) (after m at p f) (held frames.new) result }
-    ensures aside { OnOk result (IsOk aside.entry) }
+    ensures judged { let s = frames.old.types in let m = method_view body.now.method.now in let f = held frames.old in
+        let a = act_view act.now in
+        Done (run_conditions s.classes m (frames_by s frames.old.declared) at a f) (after m at (typing_rule m a) f)
+        (held frames.new) result }
     ensures rest { IsRunning frames.old frames.new }
 {
-    match run(body, at, act, facts, frames) {
-        Ok(()) => together(check_targets(alloc, at, branches_by(act), frames), aside),
-        Err(reason) => Err(first_reason(reason, aside)),
+    let ran = run(body, at, act, facts, frames);
+    if goes_nowhere(act) {
+        return ran;
     }
+    ran?;
+    check_targets(alloc, at, branches_by(act), frames)
 }
 
 /// Judges an instruction in the frame before it, which becomes the frame after: by its rule, the protected member that
 /// it uses, its targets, and the handlers of the entries that cover it.
-fn judge_wholly<'a, C: Classes>(
+#[inline(never)]
+pub fn judge_wholly<'a, C: Classes>(
     body: &Body<'_, 'a>,
     at: u16,
     act: &Act<'a>,
@@ -96,11 +116,22 @@ fn judge_wholly<'a, C: Classes>(
     let caught = handlers.catch(at, frames);
     let before = together(used, caught);
     let aside = together(before, check_end(goes_on(act), last, covered));
-    judge_named(handlers.alloc, body, at, act, facts, aside, frames)
+    let judged = judge_named(handlers.alloc, body, at, act, facts, frames);
+    together(judged, aside)
 }
 
-/// Whether nothing is asked of an instruction but its rule, its targets, the handlers around it, and that it goes on to
-/// another one: it uses no member on an object, calls no constructor, and names no bootstrap method.
+/// Whether an instruction is the last one, and goes on.
+#[inline(always)]
+fn falls_off(act: &Act<'_>, last: bool) -> bool
+    ensures { result ≡ (goes_on (act_view act.now) && last) }
+{
+    last && goes_on(act)
+}
+
+/// Whether nothing is asked of an instruction but its rule, its targets, the handlers around it, that it goes on to another
+/// one, and that no entry covers it where it calls a constructor: it uses no member on an object, and names no bootstrap
+/// method.
+#[inline(always)]
 fn asks_no_more(act: &Act<'_>) -> bool
     ensures { result ≡ asks_no_more (act_view act.now) }
 {
@@ -109,48 +140,50 @@ fn asks_no_more(act: &Act<'_>) -> bool
         Act::GetField { .. }
             | Act::PutField { .. }
             | Act::InvokeVirtual { .. }
-            | Act::InvokeSpecial { .. }
             | Act::InvokeDynamic { .. }
             | Act::LoadConstant { .. }
             | Act::LoadWideConstant { .. }
     )
 }
 
-/// Like [`judge_wholly`], but by the rule alone, or the rule and the targets, where nothing else is asked: no handler
-/// is to be compared, and the instruction is not the last one.
-pub fn judge<'a, C: Classes>(
-    body: &Body<'_, 'a>,
+/// The way in which an instruction is judged at the offset to which the handlers come: by its rule alone, or the rule and
+/// the targets, where nothing else is asked.
+#[inline(always)]
+pub fn way_of<'a, C: Classes>(
+    method: &CodeMethod<'_, 'a>,
     at: u16,
     act: &Act<'a>,
     last: bool,
     constants: &mut ClassConstants<'_, '_, 'a, C>,
     handlers: &mut Handlers,
-    frames: &mut MethodFrames<'_, '_, 'a, C>,
-) -> Result<(), Reason<'a>>
+    frames: &MethodFrames<'_, '_, 'a, C>,
+) -> Way
     requires constants { constants.old.members
-        ≡ record { class = body.now.method.now.class.now; classes = frames.old.types.classes } }
-    requires locals { length frames.old.running.locals ≡ body.now.method.now.code.now.max_locals }
-    requires numbers { AreRuleNumbers frames.old.types (method_view body.now.method.now) body.now.numbers }
-    requires handlers { Follows frames.old (method_view body.now.method.now).exceptions at handlers.old }
+        ≡ record { class = method.now.class.now; classes = frames.now.types.classes } }
+    requires handlers { Follows frames.now (method_view method.now).exceptions at handlers.old }
     ensures same { constants.new.members ≡ constants.old.members }
-    ensures judged { (next : Option ℕ) → is_none next ≡ last →
-        let s = frames.old.types in let m = method_view body.now.method.now in let f = held frames.old in
-        let a = act_view act.now in let p = typing_rule m a in
-        Done (at_conditions s.classes m (frames_by s frames.old.declared) at a p next f)
-        (after m at p f) (held frames.new) result }
-    ensures rest { IsOnward frames.old frames.new }
-    ensures handlers { let m = method_view body.now.method.now in
-        OnOk result (Follows frames.new m.exceptions at handlers.new) }
+    ensures handlers { Follows frames.now (method_view method.now).exceptions at handlers.new }
+    ensures ahead { AreAhead at handlers.new }
+    ensures way { IsWay frames.now (method_view method.now) at (act_view act.now) last result }
 {
     handlers.come_to(at);
-    if last || !handlers.are_idle(at, frames) {
-        return judge_wholly(body, at, act, last, constants, handlers, frames);
+    if falls_off(act, last) {
+        return Way::Wholly;
+    }
+    if !handlers.are_idle(at, frames) {
+        return Way::Wholly;
     }
     if is_plain(act) {
-        return run_plain(body.method, act, &body.numbers, frames);
+        return Way::Plain;
+    }
+    if is_covered_call(at, act, handlers) {
+        return Way::Wholly;
     }
     if asks_no_more(act) {
-        return judge_named(handlers.alloc, body, at, act, NO_FACTS, Ok(()), frames);
+        return Way::Named(NO_FACTS);
     }
-    judge_wholly(body, at, act, last, constants, handlers, frames)
+    match look_up(method, act, constants) {
+        Some(facts) => Way::Named(facts),
+        None => Way::Wholly,
+    }
 }

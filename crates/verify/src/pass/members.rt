@@ -1,8 +1,7 @@
 //! The protected member that an instruction uses (JVMS 4.10.1.8), and whether it calls a constructor on the own object.
-ghost use Rattle.std.specs.Prelude.{◌≡◌, ◌&&◌, ℕ, List, [], drop, option_map, IfOk};
-ghost use Rattle.classfile.specs.Methods.{ExceptionEntry, Method};
+ghost use Rattle.std.specs.Prelude.{◌≡◌, ◌&&◌, false, ℕ, List, [], drop, is_some, option_map, IfOk, IfSome};
+ghost use Rattle.classfile.specs.Methods.{ExceptionEntry};
 ghost use Rattle.hierarchy.specs.Answer.{outcome_of};
-ghost use Rattle.insn.specs.Meanings as meanings;
 ghost use Rattle.insn.specs.Stacks.{beneath};
 ghost use Rattle.insn.specs.Views.{act_view};
 ghost use Rattle.frames.specs.DeclaredFrames.{is_uninit_this};
@@ -20,10 +19,11 @@ ghost use Rattle.rules.specs.Outcomes.{Judges};
 ghost use Rattle.rules.specs.Protected.{member_conditions, object_answer};
 ghost use Rattle.rules.specs.Rules.{constructs_own};
 ghost use Rattle.rules.specs.Table.{typing_rule};
+ghost use Rattle.rules.specs.Ways.{special_index};
 ghost use Rattle.numbered_rules.specs.Held.{held};
 ghost use Rattle.verify.specs.Verdict.{is_covered};
 ghost use Rattle.verify.specs.private.pass.Following.{Follows, AreAhead};
-ghost use Rattle.verify.specs.private.pass.Objects.{is_array_type, UsesAt, UsesGuarded};
+ghost use Rattle.verify.specs.private.pass.Objects.{is_array_type, used_index, AnswersUse, UsesGuarded};
 
 use crate::pass::handlers::Handlers;
 use classfile::CodeMethod;
@@ -73,14 +73,34 @@ fn object_answer<'n, C: Classes>(
 }
 
 /// The index of the member that an instruction uses on an object, if it may use one.
+#[inline(always)]
 fn used_index(act: &Act<'_>) -> Option<u16>
-    ensures { (m : Method meanings.Act) → UsesAt m (act_view act.now) result }
+    ensures { result ≡ used_index (act_view act.now) }
 {
     match *act {
         Act::GetField { index } => Some(index),
         Act::PutField { index } => Some(index),
         Act::InvokeVirtual { index } => Some(index),
         _ => None,
+    }
+}
+
+/// Whether the member is guarded that an instruction uses on an object, if it uses one. The only refusal: memory ran
+/// out.
+#[inline(always)]
+fn uses_guarded<'a, C: Classes>(
+    _method: &CodeMethod<'_, 'a>,
+    act: &Act<'a>,
+    constants: &mut ClassConstants<'_, '_, 'a, C>,
+) -> Result<bool, AllocError>
+    requires { constants.old.members.class ≡ _method.now.class.now }
+    ensures same { constants.new.members ≡ constants.old.members }
+    ensures guarded { IfOk result (AnswersUse constants.old.members.classes (method_view _method.now)
+        (act_view act.now)) }
+{
+    match used_index(act) {
+        None => Ok(false),
+        Some(index) => constants.members.is_guarded(index),
     }
 }
 
@@ -94,10 +114,7 @@ fn guarded_use<'a, C: Classes>(
     ensures same { constants.new.members ≡ constants.old.members }
     ensures used { IfOk result (UsesGuarded constants.old.members.classes (method_view method.now) (act_view act.now)) }
 {
-    let Some(index) = used_index(act) else {
-        return Ok(None);
-    };
-    if !constants.members.is_guarded(index)? {
+    if !uses_guarded(method, act, constants)? {
         return Ok(None);
     }
     let named = constants.named(method, act)?;
@@ -228,4 +245,38 @@ pub fn facts_of<'a, C: Classes>(
         _ => {}
     }
     Ok(facts)
+}
+
+/// Whether an entry of the exception table covers an instruction that may call a constructor.
+#[inline(always)]
+pub fn is_covered_call(at: u16, act: &Act<'_>, handlers: &Handlers) -> bool
+    ensures { (x : NumberedFrames) (es : List ExceptionEntry) → Follows x es at handlers.now → AreAhead at handlers.now
+        → result ≡ (is_some (special_index (act_view act.now)) && is_covered es at) }
+{
+    special_index(act).is_some() && handlers.covers(at)
+}
+
+/// The facts about what an instruction names, where it uses no guarded member on an object. There are none where memory
+/// ran out.
+#[inline(never)]
+pub fn look_up<'a, C: Classes>(
+    method: &CodeMethod<'_, 'a>,
+    act: &Act<'a>,
+    constants: &mut ClassConstants<'_, '_, 'a, C>,
+) -> Option<NamedFacts>
+    requires { constants.old.members.class ≡ method.now.class.now }
+    ensures same { constants.new.members ≡ constants.old.members }
+    ensures own { IfSome result (λ x. x.own ≡ sets_own (method_view method.now) (act_view act.now)) }
+    ensures bootstrapped { IfSome result (λ x. x.bootstrapped
+        ≡ names_bootstrapped (method_view method.now) (act_view act.now)) }
+    ensures unguarded { IfSome result (λ _. AnswersUse constants.old.members.classes (method_view method.now)
+        (act_view act.now) false) }
+{
+    let Ok(false) = uses_guarded(method, act, constants) else {
+        return None;
+    };
+    match facts_of(method, act, constants) {
+        Ok(facts) => Some(facts),
+        Err(_) => None,
+    }
 }

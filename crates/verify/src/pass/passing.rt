@@ -13,15 +13,15 @@ ghost use Rattle.verify.specs.Verdict.{code_judged};
 ghost use Rattle.verify.specs.private.JudgingSteps.{Gives};
 ghost use Rattle.verify.specs.private.pass.Following.{Follows, IsOnward};
 
-use crate::pass::entering::enter;
+use crate::pass::entering::{enter, goes_straight};
 use crate::pass::handlers::Handlers;
-use crate::pass::judging::judge;
+use crate::pass::judging::{Way, judge_named, judge_wholly, way_of};
 use crate::refusal::refuse;
 use crate::verdict::{Verdict, VerifyFault};
 use hierarchy::Classes;
 use insn::Instructions;
 use method_frames::MethodFrames;
-use numbered_rules::Body;
+use numbered_rules::{Body, run_plain};
 use rules::{ClassConstants, goes_on};
 
 /// Judges code, by one pass over its bytes that carries one frame, the one with which the method begins.
@@ -49,15 +49,31 @@ pub fn pass<'a, C: Classes>(
     let mut comes = true;
     while !code.is_at_end() {
         let at = code.at() as u16;
-        let act = code.take_act();
-        if let Err(reason) = enter(at, comes, frames) {
-            return refuse(at, reason);
+        let act = &code.take_act();
+        if !goes_straight(at, comes, frames) {
+            if let Err(reason) = enter(at, comes, frames) {
+                return refuse(at, reason);
+            }
         }
         let last = code.is_at_end();
-        comes = goes_on(&act);
-        let judged = judge(body, at, &act, last, constants, handlers, frames);
-        if let Err(reason) = judged {
-            return refuse(at, reason);
+        comes = goes_on(act);
+        match way_of(body.method, at, act, last, constants, handlers, frames) {
+            Way::Plain => {
+                if let Err(reason) = run_plain(body.method, act, &body.numbers, frames) {
+                    return refuse(at, reason);
+                }
+            }
+            Way::Named(facts) => {
+                if let Err(reason) = judge_named(handlers.alloc, body, at, act, facts, frames) {
+                    return refuse(at, reason);
+                }
+            }
+            Way::Wholly => {
+                let judged = judge_wholly(body, at, act, last, constants, handlers, frames);
+                if let Err(reason) = judged {
+                    return refuse(at, reason);
+                }
+            }
         }
     }
     Ok(Verdict::Verified)

@@ -84,6 +84,7 @@ fn any_refuses<C: Classes>(
 ///
 /// Frames that were declared in turn have much in common, so that they are compared in this order for 68 where the
 /// frame does not come to all.
+#[inline(never)]
 fn check_all<'n, C: Classes>(
     alloc: Global,
     targets: BranchTargets<'_>,
@@ -108,6 +109,7 @@ fn check_all<'n, C: Classes>(
 /// The frame after an instruction at this offset comes to all its targets, the default of a switch first: 67 where no
 /// frame is declared at one, 68 and 77 by their comparison, 77 by the first of these targets; or 1 where memory runs
 /// out.
+#[inline(always)]
 pub fn check_targets<'n, C: Classes>(
     alloc: Global,
     at: u16,
@@ -117,8 +119,9 @@ pub fn check_targets<'n, C: Classes>(
     ensures same { frames.new ≡ frames.old }
     ensures judged { Judges (all_targets frames.old (led_to at (branches_view branches.entry))) result }
 {
-    if let Branches::Nowhere = branches {
-        return Ok(());
+    match branches {
+        Branches::Nowhere => Ok(()),
+        Branches::One(offset) => check_target(i64::from(at) + i64::from(offset), frames),
+        Branches::Switch { .. } => check_all(alloc, BranchTargets::new(at, branches), frames),
     }
-    check_all(alloc, BranchTargets::new(at, branches), frames)
 }

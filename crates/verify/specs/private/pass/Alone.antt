@@ -1,15 +1,30 @@
--- Instructions of which nothing is asked but their rule and their targets.
-use Rattle.std.specs.Prelude.{Bool, true, false}
-use Rattle.insn.specs.Meanings as acts
+-- The ways in which an instruction is judged.
+use Rattle.std.specs.Prelude.{◌≡◌, ◌&&◌, ℕ, Bool, true, is_none, None}
+use Rattle.classfile.specs.Methods.{Method}
 use Rattle.insn.specs.Meanings.{Act}
+use Rattle.frames.specs.Conditions.{least}
+use Rattle.method_frames.specs.NumberedFrames.{NumberedFrames}
+use Rattle.method_frames.specs.MapFrames.{frames_by}
+use Rattle.numbered_rules.specs.Held.{held}
+use Rattle.rules.specs.Naming.{loaded_index, names_bootstrapped, site_index, sets_own}
+use Rattle.rules.specs.Ways.{is_plain}
+use Rattle.verify.specs.declared.pass.judging.Way.{Way}
+use Rattle.verify.specs.declared.pass.judging.Way.TheVariants.{Plain, Named, Wholly}
+use Rattle.verify.specs.private.JudgingSteps.{aside_conditions}
+use Rattle.verify.specs.private.pass.Objects.{used_index}
 
--- the instruction uses no member on an object, calls no constructor, and names no bootstrap method
+-- the instruction uses no member on an object, and names no bootstrap method
 abbrev pub asks_no_more : Act → Bool
-asks_no_more (acts.GetField i) = false
-asks_no_more (acts.PutField i) = false
-asks_no_more (acts.InvokeVirtual i) = false
-asks_no_more (acts.InvokeSpecial i) = false
-asks_no_more (acts.InvokeDynamic i) = false
-asks_no_more (acts.LoadConstant i) = false
-asks_no_more (acts.LoadWideConstant i) = false
-asks_no_more _ = true
+asks_no_more a = is_none (used_index a) && is_none (loaded_index a) && is_none (site_index a)
+
+-- nothing is against it but what its rule and its targets are
+abbrev pub IsAlone : NumberedFrames → Method Act → ℕ → Act → Bool → Type 0
+IsAlone x m at a last =
+    least (aside_conditions x.types.classes m (frames_by x.types x.declared) at a last (held x)) ≡ None
+
+-- an instruction may be judged so in the running frame
+abbrev pub IsWay : NumberedFrames → Method Act → ℕ → Act → Bool → Way → Type 0
+IsWay x m at a last Plain = (is_plain a ≡ true) × IsAlone x m at a last
+IsWay x m at a last (Named facts) =
+    (facts.own ≡ sets_own m a) × (facts.bootstrapped ≡ names_bootstrapped m a) × IsAlone x m at a last
+IsWay x m at a last Wholly = Unit {0}

@@ -105,6 +105,11 @@ pub record HasReached (at : ℕ) (h : Handlers) : Type 0 where
   pub last : (h.reach ≡ 0) ⊎ ((place : ℕ) × (one : Handler) × (place < h.begun)
       × (slice_get h.by_start.items place ≡ Some one) × (one.to ≡ h.reach))
 
+-- the entries that are to come begin at the offset or behind it
+abbrev pub AreFrom : ℕ → Handlers → Type 0
+AreFrom at h = (place : ℕ) (one : Handler) → h.begun ≤ place → slice_get h.by_start.items place ≡ Some one
+    → at ≤ one.from
+
 -- the tables are those of these entries, and what is said of the frame that was kept is so
 pub record Follows (x : NumberedFrames) (es : List ExceptionEntry) (at : ℕ) (h : Handlers) : Type 0 where
   pub entries : AreHandlers x.types x.declared es h.table.items
@@ -113,6 +118,7 @@ pub record Follows (x : NumberedFrames) (es : List ExceptionEntry) (at : ℕ) (h
   pub few : h.settled ≤ h.begun
   pub within : h.begun ≤ length h.by_start.items
   pub reached : HasReached at h
+  pub later : AreFrom h.next_start h
   pub settled : (place : ℕ) (one : Handler) → IsOpen at h.settled h place one
       → IsSettled x h.flag h.representatives.until.items one
   pub representatives : AreRepresentatives x.declared h.representatives

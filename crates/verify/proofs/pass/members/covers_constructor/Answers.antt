@@ -1,11 +1,11 @@
-use Rattle.std.proofs.Common.{◌≡◌, ◌∙◌, ◌&&◌, Bool, true, false, Result, Ok, Err, refl, sym, ap}
-use Rattle.std.specs.Prelude.{IfOk}
+use Rattle.std.proofs.Common.{◌≡◌, ◌∙◌, ◌&&◌, Bool, true, false, refl, sym, ap}
 use Rattle.insn.specs.Views.{act_view}
 use Rattle.rules.specs.Bodies.{method_view}
 use Rattle.rules.specs.Rules.{constructs_own}
 use Rattle.rules.specs.Table.{typing_rule}
 use Rattle.numbered_rules.specs.Held.{held}
 use Rattle.verify.specs.Verdict.{is_covered}
+use Rattle.verify.proofs.numbered.Running.{if_ok}
 use Rattle.verify.proofs.pass.members.covers_constructor.Goals as goal
 
 not_both : (a : Bool) → false ≡ (a && false)
@@ -15,10 +15,6 @@ not_both false = refl
 alone : (a b : Bool) → b ≡ true → a ≡ (a && b)
 alone true b e = sym e
 alone false b e = refl
-
-if_ok : {T E : Type 0} (P Q : T → Type 0) (r : Result T E) → ((x : T) → P x → Q x) → IfOk r P → IfOk r Q
-if_ok P Q (Ok x) f p = f x p
-if_ok P Q (Err e) f p = tt
 
 pub returns-then-not-covers-clause-covered : goal.returns-then-not-covers-clause-covered
 returns-then-not-covers-clause-covered g c = λ x es follows ahead.

@@ -2,7 +2,7 @@ use Rattle.std.proofs.Common.{◌-◌, List, length}
 use Rattle.classfile.specs.Methods.{ExceptionEntry}
 use Rattle.method_frames.specs.NumberedFrames.{NumberedFrames}
 use Rattle.verify.specs.private.pass.Following.{Follows}
-use Rattle.verify.proofs.pass.handlers.Handlers.come_to.Given as goal
+use Rattle.verify.proofs.pass.handlers.Handlers.begin.Given as goal
 
 abbrev pub invariant-loop-handler : goal.invariant-loop-handler
 invariant-loop-handler l = (x : NumberedFrames) (es : List ExceptionEntry) → Follows x es l.at l.fn.self → Follows x es l.at l.self
