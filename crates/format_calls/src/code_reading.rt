@@ -174,6 +174,19 @@ fn instructions_by_where_they_begin(rt: HostRuntime) {
     assert!(rt; starts.next_start().is_none());
 }
 
+/// The code is `iconst_0`, `iload 1` and `new` of constant 2, and then `sipush` without its second byte.
+#[test]
+fn plain_instructions_are_skipped(rt: HostRuntime) {
+    let mut code = Instructions::new(&[0x03, 0x15, 1, 0xBB, 0, 2]);
+    assert!(rt; code.skip_plain());
+    assert!(rt; code.at() == 1);
+    assert!(rt; code.skip_plain());
+    assert!(rt; code.at() == 3);
+    assert!(rt; !code.skip_plain());
+    assert!(rt; code.at() == 3);
+    assert!(rt; !Instructions::new(&[0x11, 0]).skip_plain());
+}
+
 /// True where `Debug` writes the value as this text, or memory ran out.
 fn is_shown<T: Debug>(alloc: Global, shown: &T, expected: &str) -> bool {
     match format!(in alloc; "{shown:?}") {
