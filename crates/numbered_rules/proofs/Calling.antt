@@ -60,7 +60,7 @@ on_last (x ∷ xs) t beneath = on_last xs t (expected_of x ∷ beneath)
 arguments_more : (ts : List FieldDescriptor) (k : ℕ) (d : FieldDescriptor) (beneath : List ExpectedType) → k < length ts → arguments_on (take (k + 1) ts) beneath ≡ expected_of (get_or ts k d) ∷ arguments_on (take k ts) beneath
 arguments_more ts k d beneath lt = ap (λ xs. arguments_on xs beneath) (take_more ts k d lt) ∙ on_last (take k ts) (get_or ts k d) beneath
 
-pub descriptor_accepts : (cs : List ClassFact) (x : FieldDescriptor) (t : VerificationType) → accepts cs (expected_of x) t ≡ type_answer cs t (descriptor_type x)
+descriptor_accepts : (cs : List ClassFact) (x : FieldDescriptor) (t : VerificationType) → accepts cs (expected_of x) t ≡ type_answer cs t (descriptor_type x)
 descriptor_accepts cs (primitive p) t = refl
 descriptor_accepts cs (class_descriptor name) t = refl
 descriptor_accepts cs (array_descriptor x) t = refl

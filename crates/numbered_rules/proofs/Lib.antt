@@ -15,4 +15,3 @@ pub mod Objects
 pub mod NamedClasses
 pub mod AtOnce
 pub mod Pushed
-pub mod OnTop

@@ -1,9 +1,9 @@
 //! The arguments of calls, and the receivers beneath them.
-ghost use Rattle.std.specs.Prelude.{◌≡◌, ◌++◌, List, [], Option, Some, true, false, length, reverse, drop, slice_get, map, option_map, IfSome, MatchOption};
+ghost use Rattle.std.specs.Prelude.{◌≡◌, List, [], Option, true, map, option_map, IfSome, MatchOption};
 ghost use Rattle.std.specs.List.{All};
 ghost use Rattle.names.specs.Descriptors.{FieldDescriptor};
 ghost use Rattle.names.specs.ReferenceTypes.{ReferenceType};
-ghost use Rattle.hierarchy.specs.Answer.{outcome_of, yes};
+ghost use Rattle.hierarchy.specs.Answer.{outcome_of};
 ghost use Rattle.frames.specs.Slots.{descriptor_type, to_reference};
 ghost use Rattle.type_numbers.specs.Numbers.{IsGiven, IsNumberOf};
 ghost use Rattle.type_numbers.specs.MethodNumbers.{AreNumbers};
@@ -14,7 +14,6 @@ ghost use Rattle.numbered_rules.specs.private.Calls.{receivers, IsOneTaken};
 ghost use Rattle.numbered_rules.specs.Held.{held, IsRunning};
 
 use crate::expected::Expected;
-use crate::operands::drop_items;
 use frames::both;
 use hierarchy::{Answer, Classes};
 use method_frames::MethodFrames;
@@ -40,95 +39,11 @@ fn take_one<'n, C: Classes>(
     Some(both(so_far, answer))
 }
 
-/// Whether the numbers of the first items of the stack are those of the types of the parameters, the last one first.
-#[inline(always)]
-fn are_on_top<C: Classes>(parameters: &[u32], frames: &MethodFrames<'_, '_, '_, C>) -> bool
-    ensures { let ns = parameters.now in let stack = frames.now.running.stack in
-        result ≡ true → stack ≡ reverse ns ++ drop (length ns) stack }
-{
-    for above in 0..parameters.len() {
-        match frames.item(above) {
-            None => return false,
-            Some(number) => if number != parameters[parameters.len() - 1 - above] {
-                return false;
-            },
-        }
-    }
-    true
-}
-
-/// Whether the item that so many stand above has this number.
-#[inline(always)]
-fn is_beneath<C: Classes>(number: u32, above: usize, frames: &MethodFrames<'_, '_, '_, C>) -> bool
-    ensures { result ≡ true → slice_get frames.now.running.stack above ≡ Some number }
-{
-    match frames.item(above) {
-        None => false,
-        Some(item) => item == number,
-    }
-}
-
-/// Takes the arguments of a call and the receiver beneath them off the stack, where their numbers are those of the types
-/// that are asked for. Otherwise it leaves the stack as it is.
-#[inline(always)]
-fn took_arguments_at_once<C: Classes>(
-    parameters: &[u32],
-    receiver: Option<u32>,
-    frames: &mut MethodFrames<'_, '_, '_, C>,
-) -> bool
-    ensures taken { let s = frames.old.types in result ≡ true
-        → (ts : List FieldDescriptor) (r : Option ReferenceType)
-        → AreNumbers s parameters.now (map descriptor_type ts) → IsNumberOf s receiver (option_map to_reference r)
-        → TookOff s.classes (arguments_on ts (receivers r)) (held frames.old) yes (held frames.new) }
-    ensures left { result ≡ false → frames.new ≡ frames.old }
-    ensures rest { IsRunning frames.old frames.new }
-{
-    if !are_on_top(parameters, frames) {
-        return false;
-    }
-    let count = parameters.len();
-    match receiver {
-        None => {
-            drop_items(count, frames);
-            true
-        }
-        Some(class) => if is_beneath(class, count, frames) {
-            drop_items(count + 1, frames);
-            true
-        } else {
-            false
-        },
-    }
-}
-
 /// Takes the arguments of a call off the stack, by the numbers of the types of the parameters, the last one first; and
 /// beneath them the receiver, if there is one. None where there are too few items; then nothing is said of the items
 /// that are left, but that only the running frame changed.
 #[inline(always)]
 pub fn take_arguments<'n, C: Classes>(
-    parameters: &[u32],
-    receiver: Option<u32>,
-    frames: &mut MethodFrames<'_, '_, 'n, C>,
-) -> Option<Answer<'n>>
-    requires parameters { All (IsGiven frames.old.types) parameters.now }
-    requires receiver { IfSome receiver (IsGiven frames.old.types) }
-    ensures taken { let s = frames.old.types in (ts : List FieldDescriptor) (r : Option ReferenceType)
-        → AreNumbers s parameters.now (map descriptor_type ts) → IsNumberOf s receiver (option_map to_reference r)
-        → let ws = arguments_on ts (receivers r) in
-        MatchOption result (is_short ws (held frames.old).stack ≡ true)
-        (λ a. TookOff s.classes ws (held frames.old) (outcome_of a) (held frames.new)) }
-    ensures rest { IsRunning frames.old frames.new }
-{
-    if took_arguments_at_once(parameters, receiver, frames) {
-        return Some(Answer::Yes);
-    }
-    take_judged(parameters, receiver, frames)
-}
-
-/// Takes the arguments of a call and the receiver beneath them as [`take_arguments`] does, whatever is asked about their
-/// types.
-#[inline(never)]
-fn take_judged<'n, C: Classes>(
     parameters: &[u32],
     receiver: Option<u32>,
     frames: &mut MethodFrames<'_, '_, 'n, C>,

@@ -34,7 +34,7 @@ fn are_met_at_once<A: Asked, C: Classes>(asked: &[A], frames: &MethodFrames<'_, 
 
 /// Takes so many items off the stack.
 #[inline(always)]
-pub fn drop_items<C: Classes>(count: usize, frames: &mut MethodFrames<'_, '_, '_, C>)
+fn drop_items<C: Classes>(count: usize, frames: &mut MethodFrames<'_, '_, '_, C>)
     ensures { frames.new ≡ record frames.old {
       running = record frames.old.running { stack = drop count frames.old.running.stack };
     } }
