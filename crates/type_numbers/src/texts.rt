@@ -337,9 +337,8 @@ impl Texts {
         Ok(site_of(is_special_named(pool, name_and_type), types))
     }
 
-    /// Like [`constant`](Texts::constant), for a constant that instructions may name.
-    #[inline(never)]
-    fn named<'a, C: Classes>(
+    /// A constant of the pool as instructions name it. The only refusal is 1, where memory runs out.
+    pub fn constant<'a, C: Classes>(
         &mut self,
         pool: &Pool<'a>,
         constant: Constant<'a>,
@@ -373,27 +372,6 @@ impl Texts {
                 numbers,
             ),
             _ => Ok(loaded_as(self.loaded.of(constant))),
-        }
-    }
-
-    /// A constant of the pool as instructions name it. The only refusal is 1, where memory runs out.
-    #[inline(always)]
-    pub fn constant<'a, C: Classes>(
-        &mut self,
-        pool: &Pool<'a>,
-        constant: Constant<'a>,
-        numbers: &mut TypeNumbers<'_, 'a, C>,
-    ) -> Result<NamedConstant, AllocError>
-        requires { AreTexts numbers.old pool.now self.old }
-        ensures kept { Extends numbers.old numbers.new }
-        ensures texts { OnOk result (AreTexts numbers.new pool.now self.new) }
-        ensures grown { OnOk result (GoesOn (shared_row self.old) (shared_row self.new)) }
-        ensures described { IfOk result (IsEntryDescribed numbers.new (shared_row self.new) pool.now
-            (view constant.entry)) }
-    {
-        match constant {
-            Constant::Utf8(_) | Constant::NameAndType { .. } => Ok(NamedConstant::Other),
-            _ => self.named(pool, constant, numbers),
         }
     }
 
