@@ -1,13 +1,13 @@
 -- Rows of which the places that hold objects are listed, as they change.
-use Rattle.std.proofs.Common.{◌≡◌, ◌∙◌, ℕ, suc, ◌+◌, ◌≤◌, ◌<◌, Bool, true, false, cond, nat_eq, List, [], ◌∷◌, ◌++◌, length, map, take, replicate, set, get_or, Result, Ok, Err, OnOk, OnErr, refl, sym, ap, subst, inl, inr, ◌⊎◌, arith}
+use Rattle.std.proofs.Common.{◌≡◌, ◌∙◌, ℕ, suc, ◌<◌, Bool, true, false, cond, nat_eq, List, [], ◌∷◌, ◌++◌, length, map, replicate, set, get_or, Result, Ok, Err, OnOk, OnErr, refl, sym, ap, subst, inl, inr, ◌⊎◌, arith}
 use Rattle.std.proofs.lemmas.Bool.{cases_eq, cases_lt, true≢false}
 use Rattle.std.proofs.lemmas.Bool.Decides.{nat_tests}
-use Rattle.std.proofs.lemmas.List.{length-set, length-append, length-replicate, get_or-set_same, get_or-set_other, length-map, get_or_append_left, get_or_push, get_or-replicate, get_or-take, get_or-map}
+use Rattle.std.proofs.lemmas.List.{length-set, length-append, length-replicate, get_or-set_same, get_or-set_other, length-map, get_or_append_left, get_or_push, get_or-replicate, get_or-map}
 use Rattle.type_numbers.specs.Numbers.{Numbering, IsGiven}
 use Rattle.blocks.specs.Rows.{Rows, declared_row}
 use Rattle.method_frames.specs.Objects.{is_object, replaced}
 use Rattle.method_frames.specs.private.Known.{AreKnown}
-use Rattle.method_frames.specs.private.Holders.{IsListed, AreListed, AreListedFrom, AreHeld, KeepsListed, Replaces}
+use Rattle.method_frames.specs.private.Holders.{IsListed, AreListed, AreHeld, KeepsListed, Replaces}
 use Rattle.method_frames.specs.declared.holders.Holders.{Holders}
 use Rattle.method_frames.proofs.Knowing.{at_more, tops_known, taken_known, declared_known, put_known}
 

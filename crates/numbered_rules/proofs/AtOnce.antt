@@ -1,5 +1,5 @@
 -- Types that meet an expected type by their numbers alone, and operands of such types.
-use Rattle.std.proofs.Common.{◌≡◌, ◌∙◌, ℕ, zero, suc, ◌+◌, ◌<◌, ◌≤◌, ◌||◌, Bool, true, false, cond, nat_eq, List, [], ◌∷◌, Option, Some, None, length, get_or, slice_get, drop, map, refl, sym, ap, ap₂, subst, arith}
+use Rattle.std.proofs.Common.{◌≡◌, ◌∙◌, ℕ, ◌+◌, ◌<◌, ◌≤◌, ◌||◌, Bool, true, false, cond, nat_eq, List, [], ◌∷◌, Option, Some, None, length, get_or, slice_get, drop, refl, sym, ap, ap₂, subst, arith}
 use Rattle.std.specs.Prelude.{MatchOption}
 use Rattle.std.specs.List.{AllZip}
 use Rattle.std.specs.Str.{bytes_eq}
@@ -21,7 +21,7 @@ use Rattle.method_frames.specs.ObjectLaws.{IsObjectType}
 use Rattle.method_frames.specs.NumberedFrames.{NumberedFrames}
 use Rattle.rules.specs.TypingRules.{ExpectedType}
 use Rattle.rules.specs.After.{with_stack}
-use Rattle.rules.specs.Rules.{accepts, is_reference, is_short, operands}
+use Rattle.rules.specs.Rules.{is_reference, is_short, operands}
 use Rattle.rules.specs.Outcomes.{TookOff}
 use Rattle.numbered_rules.specs.declared.expected.Expected.{Expected}
 use Rattle.numbered_rules.specs.Expected.{accepts_by, objects, own_or, StandsFor}

@@ -1,20 +1,15 @@
 -- Rules that push one type and ask for no operand.
-use Rattle.std.proofs.Common.{◌≡◌, ℕ, [], ◌∷◌, Result, refl, sym, subst}
+use Rattle.std.proofs.Common.{◌≡◌, ℕ, [], ◌∷◌, refl, sym, subst}
 use Rattle.classfile.specs.Methods.{Method}
 use Rattle.hierarchy.specs.Answer.{yes}
 use Rattle.insn.specs.Meanings.{Act}
-use Rattle.frames.specs.FrameFact.{FrameFact}
 use Rattle.frames.specs.VerificationType.{VerificationType}
 use Rattle.frames.proofs.Types.{no_is_yes}
 use Rattle.type_numbers.specs.Numbers.{IsNumber}
-use Rattle.type_numbers.specs.Decoding.{type_by}
 use Rattle.type_numbers.proofs.Decoded.{number_read}
 use Rattle.method_frames.specs.NumberedFrames.{NumberedFrames}
-use Rattle.rules.specs.declared.reason.Reason.{Reason}
 use Rattle.rules.specs.TypingRules.{gives}
 use Rattle.rules.specs.Table.{typing_rule}
-use Rattle.rules.specs.After.{after}
-use Rattle.rules.specs.Rules.{conditions}
 use Rattle.rules.specs.Outcomes.{Done, pushed, settled}
 use Rattle.rules.proofs.Settling.{off_done}
 use Rattle.numbered_rules.specs.Held.{held}

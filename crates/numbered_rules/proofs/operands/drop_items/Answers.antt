@@ -1,4 +1,3 @@
-use Rattle.std.proofs.Common.{◌≡◌, ◌∙◌, sym}
 use Rattle.numbered_rules.proofs.AtOnce.{dropped}
 use Rattle.numbered_rules.proofs.operands.drop_items.Goals as goal
 

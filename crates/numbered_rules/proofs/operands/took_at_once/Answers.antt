@@ -1,4 +1,4 @@
-use Rattle.std.proofs.Common.{◌∙◌, map, sym, ap}
+use Rattle.std.proofs.Common.{map, sym}
 use Rattle.std.proofs.lemmas.List.{length-map}
 use Rattle.numbered_rules.proofs.AtOnce.{met_took}
 use Rattle.numbered_rules.proofs.operands.took_at_once.Goals as goal

@@ -1,4 +1,4 @@
-use Rattle.std.proofs.Common.{◌≡◌, ◌∙◌, [], ◌∷◌, refl, sym, ap}
+use Rattle.std.proofs.Common.{refl, ap}
 use Rattle.insn.specs.Views.{act_view}
 use Rattle.frames.specs.Slots.{number_type}
 use Rattle.frames.specs.VerificationType.{null}

@@ -1,7 +1,4 @@
-use Rattle.std.proofs.Common.{◌≡◌, ◌∙◌, [], sym, ap}
-use Rattle.std.proofs.lemmas.Bool.{true≢false}
-use Rattle.std.proofs.lemmas.List.{drop_all}
-use Rattle.method_frames.specs.private.Holders.{IsListed, is_among, key_of}
+use Rattle.method_frames.specs.private.Holders.{IsListed, key_of}
 use Rattle.method_frames.proofs.Listing.{among_none}
 use Rattle.method_frames.proofs.holders.Holders.are_none.Goals as goal
 
