@@ -1,5 +1,5 @@
--- A file is one class that is well formed or is refused for one reason, since bytes are one class or have one fault, and a class
--- is well formed or has one first fault.
+-- A file is one class that is well formed or is refused for one reason, since bytes are one class or have one fault,
+-- and a class is well formed or has one first fault.
 use Rattle.std.proofs.Common.{◌≡◌, Ok, Err, sym, ap, subst, ◌∙◌}
 use Rattle.classfile.specs.Values.{Class}
 use Rattle.classfile.specs.Laws.{OneClass, NoFaultInClass, OneFault}

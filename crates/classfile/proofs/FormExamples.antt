@@ -1,5 +1,5 @@
--- Worked examples of the tests of the form check, for the eye: of each a case that holds and one that does not. Each is checked,
--- and nothing stands on them.
+-- Worked examples of the tests of the form check, for the eye: of each a case that holds and one that does not. Each is
+-- checked, and nothing stands on them.
 use Rattle.std.proofs.Common.{◌≡◌, ℕ, Bool, true, false, List, [], ◌∷◌, replicate, codes, refl}
 use Rattle.names.specs.Reading.{read_class, read_base, read_field, read_params, read_result, read_method, ends_class_name, field_answer, method_answer}
 use Rattle.pool.specs.Entries as entries
@@ -23,7 +23,8 @@ use Rattle.classfile.specs.ClassForm.{is_object, leads_to_object, leads_elsewher
 abbrev told : ℕ → List (Bool × Bool)
 told n = replicate n (true, false)
 
--- #1 Class A, #3 Class [I, #5 Class java/lang/Object, #7 A:I, #9 <init>:()V, #13 <clinit>:()I, #15 <init>:()I, #18 no name
+-- #1 Class A, #3 Class [I, #5 Class java/lang/Object, #7 A:I, #9 <init>:()V, #13 <clinit>:()I, #15 <init>:()I, #18 no
+-- name
 abbrev pool : List entries.Entry
 pool =
     entries.Class 2 ∷ entries.Utf8 (codes "A") ∷ entries.Class 4 ∷ entries.Utf8 (codes "[I") ∷ entries.Class 6 ∷ entries.Utf8 (codes "java/lang/Object")
@@ -180,7 +181,8 @@ members = refl
 
 -- ---- records and sealed classes
 
--- #1 the name of Record, #2 and #3 a name and a descriptor, #4 that of Signature, #5 a class, #6 that of PermittedSubclasses
+-- #1 the name of Record, #2 and #3 a name and a descriptor, #4 that of Signature, #5 a class, #6 that of
+-- PermittedSubclasses
 abbrev names_of_attributes : List entries.Entry
 names_of_attributes =
     entries.Utf8 (codes "Record") ∷ entries.Utf8 (codes "x") ∷ entries.Utf8 (codes "I") ∷ entries.Utf8 (codes "Signature") ∷ entries.Class 2

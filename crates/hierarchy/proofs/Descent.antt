@@ -74,7 +74,8 @@ module _ (classes : List ClassFact) where
       by a e world.same = inl (sym e)
       by a e (world.above {s = s} f q) = inr (s, sym (own_above classes c own) ∙ ap (superclass_in (world_of classes)) (sym e) ∙ f, q)
 
-  -- the nearest declaration is the class's own where it declares the member, and that of its superclass where it does not
+  -- the nearest declaration is the class's own where it declares the member, and that of its superclass where it does
+  -- not
   nearest_at : (r : MemberReference) (name : List ℕ) (c : ClassFact) (d : Declaration) → class_of classes name ≡ Some c → IsNearest classes r name d
       → ((m : MemberFact) × (declared_by c r ≡ Some m) × (d ≡ record { class = c; member = m })) ⊎ ((declared_by c r ≡ None) × (s : List ℕ) × (c.superclass ≡ Some s) × IsNearest classes r s d)
   nearest_at r name c d g (here {c = x} {m = m} f t) =

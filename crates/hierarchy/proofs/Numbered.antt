@@ -1,4 +1,5 @@
--- Numbers of protected members: of one more member, and of one more class; and the version of what a class declares, from its last member on.
+-- Numbers of protected members: of one more member, and of one more class; and the version of what a class declares,
+-- from its last member on.
 use Rattle.std.proofs.Common.{◌≡◌, ◌==◌, ℕ, zero, suc, ◌+◌, ◌<◌, ◌≤◌, Bool, true, false, cond, List, [], ◌∷◌, ◌++◌, drop, find, get_or, length, map, slice_get, take, Option, Some, None, IsSome, refl, ap, sym, ◌∙◌, subst, arith}
 use Rattle.std.specs.Borrow.{Bor}
 use Rattle.std.proofs.lemmas.Bool.{false≢true}

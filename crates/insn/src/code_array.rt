@@ -83,8 +83,8 @@ impl<'a> Instructions<'a> {
         }
     }
 
-    /// Goes behind the instruction in front, where any bytes are its operands and it is no `new`, and tells that it did;
-    /// otherwise it stays where it is, and [`next_start`](Instructions::next_start) goes on.
+    /// Goes behind the instruction in front, where any bytes are its operands and it is no `new`, and tells that it
+    /// did; otherwise it stays where it is, and [`next_start`](Instructions::next_start) goes on.
     #[inline(always)]
     pub fn skip_plain(&mut self) -> bool
         ensures skipped { result ≡ true → StepsBy (λ x. x) by_made self.old (Some (Ok (self.old.at, None))) self.new }

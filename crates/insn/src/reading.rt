@@ -322,8 +322,8 @@ pub(crate) fn take_alone(cursor: &mut Cursor<'_>) -> Option<Opcode>
     Some(opcode)
 }
 
-/// Goes behind the instruction in front, where any bytes are its operands and it is no `new`; otherwise the cursor stays
-/// where it is.
+/// Goes behind the instruction in front, where any bytes are its operands and it is no `new`; otherwise the cursor
+/// stays where it is.
 #[inline(always)]
 pub(crate) fn skip_plain(cursor: &mut Cursor<'_>) -> bool
     ensures { SkipsPlain cursor.old cursor.new result }

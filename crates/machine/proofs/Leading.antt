@@ -11,7 +11,8 @@ use Rattle.machine.specs.Views.{choice_view}
 use Rattle.machine.specs.Walks.{Stop, more, returned, fault, no_choice, Walks, stops, faulty, refused, ends, goes}
 
 module _ (world : World) (m : Method Act) (s : State) (cs : List Choice) where
-  -- so many choices lead to a state, in which these are left: what is walked from there is walked from the first state on
+  -- so many choices lead to a state, in which these are left: what is walked from there is walked from the first state
+  -- on
   abbrev pub Leads : ℕ → State → List Choice → Type 0
   Leads n t left = (k : ℕ) (stop : Stop) → Walks world m t left k stop → Walks world m s cs (n + k) stop
 

@@ -1,4 +1,5 @@
--- How a method begins: the parts of it that say so, the values and objects that it begins with, and the values read back from local variables.
+-- How a method begins: the parts of it that say so, the values and objects that it begins with, and the values read
+-- back from local variables.
 use Rattle.std.proofs.Common.{◌≡◌, ◌⊎◌, inl, inr, ℕ, zero, suc, ◌+◌, ◌-◌, ◌≤◌, Bool, true, false, List, [], ◌∷◌, ◌++◌, length, replicate, Option, Some, None, refl, sym, ap, ◌∙◌, subst, arith, if◌then◌else◌}
 use Rattle.std.proofs.lemmas.List.{length-append, length-replicate}
 use Rattle.names.specs.Descriptors.{FieldDescriptor}

@@ -151,7 +151,8 @@ fn number_of(methods: &[MethodVerdict<'_>]) -> u8 {
     }
 }
 
-/// The answers on the class that these bytes are, by its bytes and by its file; each is a number, 1 where memory ran out.
+/// The answers on the class that these bytes are, by its bytes and by its file; each is a number, 1 where memory ran
+/// out.
 fn answers(alloc: Global, profile: Profile, bytes: &[u8]) -> (u8, u8) {
     let known = [FileRead::Bytes(&O)];
     let among = match verify_among_under(alloc, profile, FileRead::Bytes(bytes), &known, hasher()) {

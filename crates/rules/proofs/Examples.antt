@@ -30,8 +30,8 @@ under_object name interface = record { name = name; superclass = Some (codes "ja
 abbrev classes : List ClassFact
 classes = object_class ∷ under_object (codes "java/lang/Throwable") false ∷ under_object (codes "K") false ∷ under_object (codes "A") false ∷ under_object (codes "I") true ∷ []
 
--- #1 Class A, #2 A.<init>:()V, #3 Object.<init>:()V, #4 A.x:I, #14 a call site x:()I, #17 a Dynamic constant x:I, #18 a handle of A.x:I, #19 a Dynamic constant x:I of another
--- bootstrap method
+-- #1 Class A, #2 A.<init>:()V, #3 Object.<init>:()V, #4 A.x:I, #14 a call site x:()I, #17 a Dynamic constant x:I, #18 a
+-- handle of A.x:I, #19 a Dynamic constant x:I of another bootstrap method
 abbrev pool : List entries.Entry
 pool =
     entries.Class 5 ∷ entries.Methodref 1 6 ∷ entries.Methodref 7 6 ∷ entries.Fieldref 1 12 ∷ entries.Utf8 (codes "A") ∷ entries.NameAndType 8 9

@@ -93,7 +93,8 @@ enters_straight classes false f declared e q = absurd (cc)
 
 -- ---- the bytes that are left
 
--- they are these instructions, and with them the verdict is what it is; the offset and the bytes that are left are those of all
+-- they are these instructions, and with them the verdict is what it is; the offset and the bytes that are left are
+-- those of all
 pub record Remains (classes : List ClassFact) (m : Method Act) (frames : Frames) (size : ℕ) (p : Place) (comes : Bool) (f : FrameFact) (v : Verdict) : Type 0 where
   pub instructions : List (ℕ × Instruction)
   pub read : reading_at p ≡ Ok instructions

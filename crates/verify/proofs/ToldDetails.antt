@@ -1,5 +1,5 @@
--- Where a method is refused for an operand, a local variable, a target, a handler, a frame that comes or an entry of the
--- exception table, it is told what is wrong.
+-- Where a method is refused for an operand, a local variable, a target, a handler, a frame that comes or an entry of
+-- the exception table, it is told what is wrong.
 use Rattle.std.proofs.Common.{◌≡◌, ◌⊎◌, inl, inr, ℕ, ◌≤◌, ℤ, pos, Bool, true, false, ◌&&◌, ◌||◌, is_some, is_none, nat_eq, nat_lt, List, [], ◌∷◌, length, Option, Some, None, Result, Ok, Err, refl, sym, ◌∙◌, ap, subst, arith, true≢false, eqb-true, if◌then◌else◌}
 use Rattle.classfile.specs.Methods.{Method, ExceptionEntry}
 use Rattle.hierarchy.specs.Class.{ClassFact}

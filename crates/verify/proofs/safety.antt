@@ -1,4 +1,5 @@
--- Why type-safe methods are safe: worlds, states that fit frames, one family of instructions after the other, beginnings, steps and runs.
+-- Why type-safe methods are safe: worlds, states that fit frames, one family of instructions after the other,
+-- beginnings, steps and runs.
 pub mod Worlds
 pub mod Fits
 pub mod Agree

@@ -1,4 +1,5 @@
--- The meaning of verdicts: what a method that is verified, or refused, is; how the pass finds it; and what is answered of it.
+-- The meaning of verdicts: what a method that is verified, or refused, is; how the pass finds it; and what is answered
+-- of it.
 pub mod Passing
 pub mod Following
 pub mod Shown

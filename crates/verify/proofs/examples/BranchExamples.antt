@@ -1,4 +1,5 @@
--- Verdicts on methods with branches and stack maps, for the eye: one for each reason that comes with them. Nothing stands on it.
+-- Verdicts on methods with branches and stack maps, for the eye: one for each reason that comes with them. Nothing
+-- stands on it.
 use Rattle.std.proofs.Common.{◌≡◌, ℕ, pos, negsuc, true, false, List, [], ◌∷◌, Option, Some, None, codes, refl}
 use Rattle.classfile.specs.Methods.{Method}
 use Rattle.insn.specs.declared.operation.Kind.TheVariants.{Int, Long}

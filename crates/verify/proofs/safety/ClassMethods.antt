@@ -1,4 +1,5 @@
--- The methods of classes in play: their names, types and superclasses are those of the class file, and so of the hierarchy.
+-- The methods of classes in play: their names, types and superclasses are those of the class file, and so of the
+-- hierarchy.
 use Rattle.std.proofs.Common.{◌≡◌, ℕ, Bool, true, false, not, nat_eq, nat_lt, List, [], Option, Some, None, Result, Ok, Err, option_map, if◌then◌else◌, sym, ap, refl, ◌∙◌, subst}
 use Rattle.std.specs.Str.{bytes_eq}
 use Rattle.std.specs.List.{list_any}

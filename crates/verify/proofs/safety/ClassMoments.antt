@@ -1,5 +1,5 @@
--- One map of run-time types and the readiness of each activation: how a state of an activation is made of them, and what becomes of it when
--- the map grows.
+-- One map of run-time types and the readiness of each activation: how a state of an activation is made of them, and
+-- what becomes of it when the map grows.
 use Rattle.std.proofs.Common.{◌≡◌, ℕ, Bool, true, false, nat_eq, List, [], ◌∷◌, Option, Some, None, option_map, ◌⊎◌, inl, inr, if◌then◌else◌, sym, ap, refl, ◌∙◌, subst, eqb-true}
 use Rattle.names.specs.Descriptors.{FieldDescriptor, primitive, class, array}
 use Rattle.names.specs.ReferenceTypes.{ReferenceType, class_type, array_type}

@@ -1,4 +1,5 @@
--- When values, local variables and states fit types and frames, under a map of the objects that are not initialized; what assignability keeps.
+-- When values, local variables and states fit types and frames, under a map of the objects that are not initialized;
+-- what assignability keeps.
 use Rattle.std.proofs.Common.{◌≡◌, ℕ, Bool, true, false, ◌==◌, List, [], ◌∷◌, ◌++◌, map, length, Some, ◌⊎◌, sym, ap, refl, ◌∙◌, subst, arith, eqb-true}
 use Rattle.names.specs.ReferenceTypes.{ReferenceType, class_type, array_type, descriptor_of}
 use Rattle.classfile.specs.Methods.{Method}
@@ -20,7 +21,8 @@ use Rattle.machine.specs.Heap.{ready, made, this, Object, object, Heap, IsBelow,
 use Rattle.machine.specs.Demands.{State}
 use Rattle.verify.proofs.safety.Worlds.{IsWorld, below_trans, answer_below}
 
--- The world, the method, the address of its own object; for each `new` the address of the object that it made, and back.
+-- The world, the method, the address of its own object; for each `new` the address of the object that it made, and
+-- back.
 pub record View : Type 0 where
   pub world : World
   pub method : Method Act

@@ -128,9 +128,9 @@ fn falls_off(act: &Act<'_>, last: bool) -> bool
     last && goes_on(act)
 }
 
-/// Whether nothing is asked of an instruction but its rule, its targets, the handlers around it, that it goes on to another
-/// one, and that no entry covers it where it calls a constructor: it uses no member on an object, and names no bootstrap
-/// method.
+/// Whether nothing is asked of an instruction but its rule, its targets, the handlers around it, that it goes on to
+/// another one, and that no entry covers it where it calls a constructor: it uses no member on an object, and names no
+/// bootstrap method.
 #[inline(always)]
 fn asks_no_more(act: &Act<'_>) -> bool
     ensures { result ≡ asks_no_more (act_view act.now) }
@@ -146,8 +146,8 @@ fn asks_no_more(act: &Act<'_>) -> bool
     )
 }
 
-/// The way in which an instruction is judged at the offset to which the handlers come: by its rule alone, or the rule and
-/// the targets, where nothing else is asked.
+/// The way in which an instruction is judged at the offset to which the handlers come: by its rule alone, or the rule
+/// and the targets, where nothing else is asked.
 #[inline(always)]
 pub fn way_of<'a, C: Classes>(
     method: &CodeMethod<'_, 'a>,
