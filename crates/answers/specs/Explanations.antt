@@ -5,7 +5,7 @@ use Rattle.std.specs.List.{flat_map}
 use Rattle.pool.specs.Entries.{Entry}
 use Rattle.classfile.specs.Values.{CodeBody, Handler, Member}
 use Rattle.classfile.specs.Methods.{code_of}
-use Rattle.insn.specs.Readings.{reading_of}
+use Rattle.insn.specs.CodeResults.{code_result}
 use Rattle.frames.specs.FrameFact.{FrameFact}
 use Rattle.rules.specs.Reasons.{reason_number}
 use Rattle.printing.specs.Frames.{frame_lines, frame_fields}
@@ -44,8 +44,8 @@ frames_for x =
 abbrev pub code_part : ℕ → List Entry → Option CodeBody → ℕ → FramesFact → List ℕ
 code_part n pool None at x = []
 code_part n pool (Some body) at x =
-    sizes_line body ++ (line_at (reading_of body.code) at
-    ++ (named_at pool (reading_of body.code) at
+    sizes_line body ++ (line_at (code_result body.code) at
+    ++ (named_at pool (code_result body.code) at
     ++ (frames_for x ++ (detail_line_of (sought_by n) x.detail ++ entry_lines pool body x))))
 
 -- the explanation of a method with this line, this verdict and these frames at the instruction at which it is refused;
@@ -85,8 +85,8 @@ entry_fields pool body (Some place) = table_fields pool (entry_at body.exception
 abbrev pub code_fields : List Entry → Option CodeBody → ℕ → FramesFact → List ℕ
 code_fields pool None at x = object_end
 code_fields pool (Some body) at x =
-    fields_then (size_fields body) (fields_then (instruction_fields (reading_of body.code) at)
-    (fields_then (named_fields_at pool (reading_of body.code) at)
+    fields_then (size_fields body) (fields_then (instruction_fields (code_result body.code) at)
+    (fields_then (named_fields_at pool (code_result body.code) at)
     (frame_fields_for x (fields_then (detail_fields_of x.detail)
     (fields_behind (entry_fields pool body (entry_of x.detail)))))))
 

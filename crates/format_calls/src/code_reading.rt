@@ -1,7 +1,7 @@
 use insn::{
     Act, CodeFault, Insn, Instructions, Kind, Opcode, act, code_is_one_list, count_instructions,
     decode_code, forms_move_units, found_at, is_start, kinds_and_arrays, list_is_one_code,
-    made_index, mnemonic, opcodes_have_numbers, read_insn, read_is_written, readings_are_spellings,
+    made_index, mnemonic, opcodes_have_numbers, read_insn, read_is_written, results_are_spellings,
     written_is_read,
 };
 use layout::{Cursor, MAX_CODE_BYTES};
@@ -12,7 +12,7 @@ use std::test::*;
 #[test]
 fn laws_are_called() {
     code_is_one_list();
-    readings_are_spellings();
+    results_are_spellings();
     opcodes_have_numbers();
     list_is_one_code();
     written_is_read();

@@ -10,10 +10,10 @@ use Rattle.insn.specs.Instructions.{Instruction}
 use Rattle.insn.specs.Code.{StepsThrough, StepsBy}
 use Rattle.insn.specs.Meanings.{Act, New, act, made_index}
 use Rattle.insn.specs.Offsets.{acts, at_offset, by_made}
-use Rattle.insn.specs.Readings.{or_none, instructions_in}
+use Rattle.insn.specs.CodeResults.{or_none, instructions_in}
 use Rattle.insn.specs.Views.{view, views}
 use Rattle.insn.proofs.CodeLaws.{SoFar, told_step, code_step, code_whole, shorter, has_bytes}
-use Rattle.insn.proofs.Readings.{only_reading}
+use Rattle.insn.proofs.CodeResults.{only_result}
 use Rattle.frames.specs.declared.code_starts.StartKind.{StartKind}
 use Rattle.frames.specs.declared.code_starts.StartKind.TheVariants.{Inside}
 use Rattle.frames.specs.DeclaredFrames.{is_new}
@@ -124,7 +124,7 @@ module _ (code : List ℕ) (old new : Place) (marks : List StartKind) (step : Re
 pub marking_last : (code : List ℕ) (p : Place) (marks : List StartKind) → Marking code p marks → p.rest ≡ [] → AreMarks marks (acts (instructions_in code))
 marking_last code p marks now end =
     let whole = code_whole code now.done p now.so_far (ap (λ (l : List ℕ). length l) end) in
-    subst (λ (xs : List (ℕ × Instruction)). AreMarks marks (acts xs)) (sym (ap or_none (only_reading code (Ok now.done) whole))) now.right
+    subst (λ (xs : List (ℕ × Instruction)). AreMarks marks (acts xs)) (sym (ap or_none (only_result code (Ok now.done) whole))) now.right
 
 -- ---- a list from its end
 

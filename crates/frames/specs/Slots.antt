@@ -4,7 +4,7 @@ use Rattle.names.specs.Descriptors.{FieldDescriptor, primitive, class as class_d
 use Rattle.names.specs.ReferenceTypes.{ReferenceType, class_type, array_type}
 use Rattle.insn.specs.declared.operation.Kind.{Kind}
 use Rattle.insn.specs.declared.operation.Kind.TheVariants.{Int, Long, Float, Double}
-use Rattle.insn.specs.Stacks.{computed_as}
+use Rattle.insn.specs.Kinds.{computed_as}
 use Rattle.frames.specs.VerificationType.{VerificationType, top, int, float, long, double, null, class, array, uninit_this, uninit}
 use Rattle.frames.specs.FrameAssignable.{width_of}
 

@@ -1,15 +1,15 @@
 pub mod ByUnits
 pub mod CodeLaws
+pub mod CodeResults
 pub mod CodeSpellings
 pub mod Keys
 pub mod Kept
 pub mod Numbers
 pub mod OperandLaws
 pub mod Places
-pub mod Plain
-pub mod Readings
 pub mod Rows
 pub mod Spelled
 pub mod Starts
 pub mod Steps
 pub mod Switches
+pub mod Taken

@@ -5,7 +5,7 @@ use Rattle.std.proofs.lemmas.List.{length-map}
 use Rattle.std.proofs.lemmas.Option.{slice_get-map, slice_get_past, slice_get_read, slice_get_within, unwrap_or-slice_get}
 use Rattle.insn.specs.declared.opcode.Opcode.{Opcode}
 use Rattle.insn.specs.Opcodes.{row, number, opcodes, opcode_of}
-use Rattle.insn.specs.private.Plain.{plain_length}
+use Rattle.insn.specs.Unconstrained.{unconstrained_length}
 use Rattle.insn.specs.private.Table.{TableRow, table_row, table_opcode, table_act, act_alone, IsRowOf}
 use Rattle.insn.proofs.Numbers.{by_number}
 
@@ -60,7 +60,7 @@ zero_there (suc k) zero = refl
 zero_there (suc k) (suc n) = zero_there k n
 
 -- what stands at a number, behind which zeros stand
-pub length_there : (os : List Opcode) (k n : ℕ) → slice_index (map (λ o. plain_length (Some o)) os ++ replicate k 0) n ≡ plain_length (slice_get os n)
+pub length_there : (os : List Opcode) (k n : ℕ) → slice_index (map (λ o. unconstrained_length (Some o)) os ++ replicate k 0) n ≡ unconstrained_length (slice_get os n)
 length_there [] k n = zero_there k n
 length_there (o ∷ os) k zero = refl
 length_there (o ∷ os) k (suc n) = length_there os k n

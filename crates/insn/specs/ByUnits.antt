@@ -10,8 +10,8 @@ use Rattle.insn.specs.declared.stack.StackPlace.{StackPlace}
 use Rattle.insn.specs.declared.stack.StackPlace.TheVariants.{Narrow, Wide}
 use Rattle.insn.specs.declared.stack.StackOperator.{StackOperator}
 use Rattle.insn.specs.declared.stack.StackOperator.TheVariants.{Pop, Pop2, Dup, DupX1, DupX2, Dup2, Dup2X1, Dup2X2, Swap}
-use Rattle.insn.specs.Acts.{StackForm, stack_forms, takes_array}
-use Rattle.insn.specs.Stacks.{computed_as}
+use Rattle.insn.specs.Operators.{StackForm, stack_forms, takes_array}
+use Rattle.insn.specs.Kinds.{computed_as}
 use Rattle.insn.specs.Offsets.{IsAmong}
 
 -- ---- kinds

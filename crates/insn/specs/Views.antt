@@ -9,7 +9,7 @@ use Rattle.insn.specs.declared.switch.Pairs.{Pairs}
 use Rattle.insn.specs.declared.switch.TableSwitch.{TableSwitch}
 use Rattle.insn.specs.declared.switch.LookupSwitch.{LookupSwitch}
 use Rattle.insn.specs.declared.stack.StackForm as forms
-use Rattle.insn.specs.Acts.{StackForm}
+use Rattle.insn.specs.Operators.{StackForm}
 use Rattle.insn.specs.Meanings as means
 use Rattle.insn.specs.declared.instruction.Operands.{Operands}
 use Rattle.insn.specs.declared.instruction.Operands.TheVariants as operands

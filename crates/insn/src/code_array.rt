@@ -5,14 +5,14 @@ use crate::fault::CodeFault;
 use crate::instruction::{Insn, Operands};
 use crate::meaning::{act, made_index};
 use crate::operation::Act;
-use crate::reading::{read_insn, skip_plain, take_alone, take_common_act, take_new};
+use crate::reading::{read_insn, skip_unconstrained, take_alone, take_common_act, take_new};
 use layout::Cursor;
 use std::marker::Model;
 
 /// The instructions of a method's code (JVMS 4.7.3, `code`), each with the offset in bytes where it
 /// begins, read from the bytes as they are asked for.
 ///
-/// It ends behind the last instruction, or behind the first that is at fault, which is answered as
+/// It ends behind the last instruction, or behind the first that is at fault, whose fault it returns,
 /// 31 to 35. It takes no memory, whatever the code's length, and each instruction borrows from the
 /// code.
 ///
@@ -31,9 +31,10 @@ impl<'a> Model for Instructions<'a> {
 }
 
 impl<'a> Instructions<'a> {
-    ghost use Rattle.std.specs.Prelude.{true, false, Some, None, Ok, length, nat_eq};
+    ghost use Rattle.std.specs.Prelude.{◌↔◌, true, false, Some, None, Ok, IsTrue, length, nat_eq};
     ghost use Rattle.insn.specs.Code.{StepsBy, StepsThrough, HasInstruction};
     ghost use Rattle.insn.specs.Offsets.{by_act, by_made};
+    ghost use Rattle.insn.specs.Unconstrained.{HasUnconstrained};
     ghost use Rattle.insn.specs.Views.{act_located, located};
 
     /// The instructions of this code, from its first byte on.
@@ -68,12 +69,12 @@ impl<'a> Instructions<'a> {
     {
         match take_common_act(&mut self.cursor) {
             Some(act) => act,
-            None => self.act_with_operands(),
+            None => self.take_other_act(),
         }
     }
 
     #[inline(never)]
-    fn act_with_operands(&mut self) -> Act<'a>
+    fn take_other_act(&mut self) -> Act<'a>
         requires { HasInstruction self.old }
         ensures { StepsBy act_located by_act self.old (Some (Ok (self.old.at, result))) self.new }
     {
@@ -83,14 +84,16 @@ impl<'a> Instructions<'a> {
         }
     }
 
-    /// Goes behind the instruction in front, where any bytes are its operands and it is no `new`, and tells that it
-    /// did; otherwise it stays where it is, and [`next_start`](Instructions::next_start) goes on.
+    /// Goes behind the instruction in front, where its operands are unconstrained and it is no `new`, and returns whether
+    /// it did; otherwise it stays where it is, and [`next_start`](Instructions::next_start) goes on. Operands are
+    /// unconstrained where any bytes behind the opcode, as many as its form has, are its operands (JVMS 6.5).
     #[inline(always)]
-    pub fn skip_plain(&mut self) -> bool
+    pub fn skip_unconstrained(&mut self) -> bool
         ensures skipped { result ≡ true → StepsBy (λ x. x) by_made self.old (Some (Ok (self.old.at, None))) self.new }
         ensures stayed { result ≡ false → self.new ≡ self.old }
+        ensures when { IsTrue result ↔ HasUnconstrained self.old.rest }
     {
-        skip_plain(&mut self.cursor)
+        skip_unconstrained(&mut self.cursor)
     }
 
     /// Goes on as `next` does, and tells of an instruction where it begins and, if it is a `new`, the index of the
@@ -103,7 +106,7 @@ impl<'a> Instructions<'a> {
             return None;
         }
         let at = self.cursor.at();
-        if self.skip_plain() {
+        if self.skip_unconstrained() {
             return Some(Ok((at, None)));
         }
         self.start_with_operands()

@@ -7,7 +7,7 @@ ghost use Rattle.insn.specs.Code.{SpellsCode, FaultyCode};
 ghost use Rattle.insn.specs.ByUnits.{KindsAreRows, ArraysAreTaken, FormsMoveUnits};
 ghost use Rattle.insn.specs.Laws.{OneSpelling, StartsAreSums, SizesAdd, WrittenIsRead, ReadIsWritten};
 ghost use Rattle.insn.specs.Opcodes.{number, opcode_of};
-ghost use Rattle.insn.specs.Readings.{ReadingsAreSpellings};
+ghost use Rattle.insn.specs.CodeResults.{ResultsAreSpellings};
 
 /// Bytes are the code of one list of instructions at most, and then no instruction in them is at
 /// fault; other bytes have one fault at most.
@@ -20,8 +20,8 @@ pub fn code_is_one_list()
 {}
 
 /// The words that compute say of code what its spelling says: its instructions, or its fault.
-pub fn readings_are_spellings()
-    ensures { ReadingsAreSpellings }
+pub fn results_are_spellings()
+    ensures { ResultsAreSpellings }
 {}
 
 /// Opcodes and their numbers are two ways through one table.

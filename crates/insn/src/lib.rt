@@ -4,24 +4,24 @@
 //! Proved against the table of opcodes (`specs/Opcodes.antt`), the bytes of each instruction
 //! (`specs/Instructions.antt`, JVMS 6.5) and of code (`specs/Code.antt`). The calls to know are
 //! [`decode_code`] and [`encode_code`]; [`Instructions`] reads one after the other and takes no memory,
-//! and [`act`] tells what an instruction means without its form.
+//! and [`act`] gives what an instruction means without its form.
 //!
-//! - `branching`: where an instruction branches to
-//! - `code_array`: a method's code, one instruction after the other
-//! - `decoding`: all of a method's code
-//! - `encoding`: code from its instructions
-//! - `fault`: why bytes are no code
-//! - `finding`: the instruction at an offset
-//! - `instruction`: an opcode and what stands behind it
-//! - `laws`: laws of code and of its tables, without code
-//! - `meaning`: what an instruction means
-//! - `opcode`: opcodes and their numbers
-//! - `operation`: operators, and what instructions may mean
-//! - `reading`: one instruction
-//! - `stack`: the instructions that move what is on the stack
-//! - `switch`: the parts of a switch, and where it goes
-//! - `table`: the instruction set, a row for each opcode
-//! - `writing`: one instruction, written
+//! - `branching` finds the offsets to which an instruction branches
+//! - `code_array` has `Instructions`, which reads the instructions of a method's code one after the other
+//! - `decoding` reads all of a method's code into a list
+//! - `encoding` writes a list of instructions as code
+//! - `fault` has the reasons for which bytes are no code
+//! - `finding` finds the instruction at an offset of a list
+//! - `instruction` has `Insn`, an opcode with its operands
+//! - `laws` states laws of code and of its tables; its functions do nothing
+//! - `meaning` gives the act of an instruction
+//! - `opcode` has the opcodes and their numbers
+//! - `operation` has the operators, and `Act`, the acts that instructions may have
+//! - `reading` reads one instruction
+//! - `stack` has the instructions that move items of the stack
+//! - `switch` reads the parts of a switch
+//! - `table` is the instruction set, a row for each opcode
+//! - `writing` writes one instruction
 #![tactic(auto)]
 
 mod branching;
@@ -50,7 +50,7 @@ pub use finding::found_at;
 pub use instruction::{Insn, Operands, is_rising_start, is_start, mnemonic};
 pub use laws::{
     code_is_one_list, forms_move_units, kinds_and_arrays, list_is_one_code, opcodes_have_numbers,
-    read_is_written, readings_are_spellings, written_is_read,
+    read_is_written, results_are_spellings, written_is_read,
 };
 pub use meaning::{act, made_index};
 pub use opcode::Opcode;

@@ -1,4 +1,4 @@
-//! The meaning of an instruction, from its opcode and its operands. No call takes memory.
+//! The act of an instruction, from the meaning of its opcode and its operands. No call takes memory.
 ghost use Rattle.std.specs.Prelude.{◌≡◌};
 ghost use Rattle.insn.specs.Code.{modified};
 ghost use Rattle.insn.specs.Meanings.{act, made_index, element_of, index_of, local_of, offset_of};

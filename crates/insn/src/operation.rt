@@ -1,7 +1,7 @@
-//! The meaning of an instruction, without its form.
+//! The kinds of numbers and the operators, and the acts that instructions may have.
 ghost use Rattle.std.specs.Prelude.{◌≡◌};
-ghost use Rattle.insn.specs.Acts.{is_wide, kind_units, takes_array};
-ghost use Rattle.insn.specs.Stacks.{computed_as};
+ghost use Rattle.insn.specs.Kinds.{is_wide, kind_units, computed_as};
+ghost use Rattle.insn.specs.Operators.{takes_array};
 
 use crate::stack::StackOperator;
 use crate::switch::Targets;

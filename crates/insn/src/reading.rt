@@ -1,9 +1,10 @@
-//! Reading one instruction. No call takes memory.
-ghost use Rattle.std.specs.Prelude.{◌≡◌, ◌≤◌, ◌-◌, Some, IfSome, length, take};
+//! One instruction, read from the bytes in front. No call takes memory.
+ghost use Rattle.std.specs.Prelude.{◌≡◌, ◌≤◌, ◌-◌, ◌↔◌, Some, IfSome, IsTrue, length, take};
 ghost use Rattle.insn.specs.Code.{ReadsInstruction, TakesAlone};
 ghost use Rattle.insn.specs.Faults.{Decodes, or_cut};
 ghost use Rattle.insn.specs.Instructions.{operands_at, behind_opcode, instruction_at, wide_at, widened, widened_opcode, invoke_interface_at, invoke_dynamic_at, table_switch_at, table_behind, lookup_switch_at, pairs_behind, keys, rising, follows};
-ghost use Rattle.insn.specs.private.Plain.{SkipsPlain, TakesNew, TakesAct, HasAct};
+ghost use Rattle.insn.specs.private.Taken.{SkipsUnconstrained, TakesNew, TakesAct, HasAct};
+ghost use Rattle.insn.specs.Unconstrained.{HasUnconstrained};
 ghost use Rattle.insn.specs.Views.{operands_view, table_switch_view, lookup_switch_view, view};
 
 use crate::fault::CodeFault;
@@ -12,7 +13,7 @@ use crate::meaning::{act_of_count, act_of_index, act_of_local, act_of_number, ac
 use crate::opcode::Opcode;
 use crate::operation::{Act, Meaning};
 use crate::switch::{LookupSwitch, Pairs, TableSwitch};
-use crate::table::{Form, plain_length, row_at};
+use crate::table::{Form, row_at, unconstrained_length};
 use byteorder::{BigEndian, ByteOrder};
 use layout::{Cursor, ReadFault};
 
@@ -294,7 +295,7 @@ fn behind_opcode<'a>(
 }
 
 /// Reads the instruction in front, whose offset is the cursor's place, and goes behind it; or
-/// answers why there is none, 31 to 35 at its offset, and the cursor is where it was.
+/// returns why there is none, 31 to 35 at its offset, and the cursor is where it was.
 pub fn read_insn<'a>(cursor: &mut Cursor<'a>) -> Result<Insn<'a>, CodeFault>
     ensures { ReadsInstruction view cursor.old cursor.new result }
 {
@@ -305,7 +306,7 @@ pub fn read_insn<'a>(cursor: &mut Cursor<'a>) -> Result<Insn<'a>, CodeFault>
     Ok(insn)
 }
 
-/// Goes behind the instruction in front and answers its opcode, where it has no operands; otherwise the cursor stays
+/// Goes behind the instruction in front and returns its opcode, where it has no operands; otherwise the cursor stays
 /// where it is.
 pub(crate) fn take_alone(cursor: &mut Cursor<'_>) -> Option<Opcode>
     ensures { TakesAlone cursor.old cursor.new result }
@@ -322,20 +323,21 @@ pub(crate) fn take_alone(cursor: &mut Cursor<'_>) -> Option<Opcode>
     Some(opcode)
 }
 
-/// Goes behind the instruction in front, where any bytes are its operands and it is no `new`; otherwise the cursor
-/// stays where it is.
+/// Goes behind the instruction in front, where its operands are unconstrained (any bytes are its operands) and it is no
+/// `new`; otherwise the cursor stays where it is.
 #[inline(always)]
-pub(crate) fn skip_plain(cursor: &mut Cursor<'_>) -> bool
-    ensures { SkipsPlain cursor.old cursor.new result }
+pub(crate) fn skip_unconstrained(cursor: &mut Cursor<'_>) -> bool
+    ensures skipped { SkipsUnconstrained cursor.old cursor.new result }
+    ensures when { IsTrue result ↔ HasUnconstrained cursor.old.rest }
 {
     let [number, ..] = cursor.rest() else {
         return false;
     };
-    let length = plain_length(*number);
+    let length = unconstrained_length(*number);
     length > 0 && cursor.part(length).is_ok()
 }
 
-/// Goes behind the instruction in front and answers its index, where it is a `new`; otherwise the cursor stays where it
+/// Goes behind the instruction in front and returns its index, where it is a `new`; otherwise the cursor stays where it
 /// is.
 #[inline(always)]
 pub(crate) fn take_new(cursor: &mut Cursor<'_>) -> Option<u16>
@@ -355,7 +357,7 @@ pub(crate) fn take_new(cursor: &mut Cursor<'_>) -> Option<u16>
 /// The act of the instruction in front of these bytes, of this form and meaning, and how many bytes it has, where its
 /// operands have at most four bytes and are of a common form; otherwise none.
 #[inline(always)]
-fn act_with_operands<'a>(bytes: &[u8], form: Form, meaning: Meaning) -> Option<(Act<'a>, usize)>
+fn common_act<'a>(bytes: &[u8], form: Form, meaning: Meaning) -> Option<(Act<'a>, usize)>
     ensures { IfSome result (λ t. HasAct bytes.now form meaning t.0 t.1) }
 {
     match form {
@@ -407,7 +409,7 @@ fn act_with_operands<'a>(bytes: &[u8], form: Form, meaning: Meaning) -> Option<(
     }
 }
 
-/// Goes behind the instruction in front and answers its act, where it has no operands or those of a common form;
+/// Goes behind the instruction in front and returns its act, where it has no operands or those of a common form;
 /// otherwise, and where it is unsupported, the cursor stays where it is.
 #[inline(always)]
 pub(crate) fn take_common_act<'a>(cursor: &mut Cursor<'_>) -> Option<Act<'a>>
@@ -421,7 +423,7 @@ pub(crate) fn take_common_act<'a>(cursor: &mut Cursor<'_>) -> Option<Act<'a>>
         cursor.part(1).ok()?;
         return Some(*act);
     }
-    let (act, length) = act_with_operands(cursor.rest(), *form, *meaning)?;
+    let (act, length) = common_act(cursor.rest(), *form, *meaning)?;
     cursor.part(length).ok()?;
     Some(act)
 }

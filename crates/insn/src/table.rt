@@ -1,9 +1,9 @@
 //! The instruction set of the Java Virtual Machine in rows (JVMS 6.5): one for each opcode, one for
 //! each operator that computes numbers, and one for each that moves what is on the stack.
 ghost use Rattle.std.specs.Prelude.{◌≡◌, ◌++◌, Some, None, MatchOption, map, replicate, slice_get};
-ghost use Rattle.insn.specs.Acts.{numeric_row, numeric_operators, stack_forms, stack_operators};
+ghost use Rattle.insn.specs.Operators.{numeric_row, numeric_operators, stack_forms, stack_operators};
 ghost use Rattle.insn.specs.Opcodes.{row, mnemonic, form, meaning, opcodes, opcode_of};
-ghost use Rattle.insn.specs.private.Plain.{plain_length};
+ghost use Rattle.insn.specs.Unconstrained.{unconstrained_length};
 ghost use Rattle.insn.specs.private.Table.{table_row, table_opcode, table_act, act_alone, IsRowOf, numeric_table_row, numeric_table_operator, stack_table_row, stack_table_operator};
 ghost use Rattle.insn.specs.Views.{stack_form_view};
 
@@ -76,9 +76,9 @@ macro_rules! act_alone {
     };
 }
 
-/// How many bytes an instruction of this opcode and form has, where any bytes are its operands; otherwise, and for
+/// How many bytes an instruction of this opcode and form has, where its operands are unconstrained; otherwise, and for
 /// `new`, 0.
-macro_rules! plain_length {
+macro_rules! unconstrained_length {
     (New $form:ident) => { 0 };
     ($opcode:ident Nothing) => { 1 };
     ($opcode:ident Byte) => { 2 };
@@ -107,11 +107,12 @@ macro_rules! rows {
     };
 }
 
-/// The lengths of plain instructions by all numbers of a byte, of a table that is written one row a line.
-macro_rules! plain_lengths {
+/// The lengths of instructions with unconstrained operands by all numbers of a byte, of a table that is written one row a
+/// line.
+macro_rules! unconstrained_lengths {
     ($($opcode:ident $mnemonic:literal $form:ident $meaning:expr;)*) => {
         [
-            $(plain_length!($opcode $form),)*
+            $(unconstrained_length!($opcode $form),)*
             0, 0, 0, 0, 0, 0, 0, 0, 0, 0, 0, 0, 0, 0, 0, 0, 0, 0,
             0, 0, 0, 0, 0, 0, 0, 0, 0, 0, 0, 0, 0, 0, 0, 0, 0, 0,
             0, 0, 0, 0, 0, 0, 0, 0, 0, 0, 0, 0, 0, 0, 0, 0, 0, 0,
@@ -334,7 +335,7 @@ static ROWS: [Row; 202] = instruction_set!(rows);
 
 /// For each number of a byte the length in bytes of an instruction of that opcode, where any bytes are its operands;
 /// otherwise, and for `new`, 0.
-static PLAIN_LENGTHS: [u8; 256] = instruction_set!(plain_lengths);
+static UNCONSTRAINED_LENGTHS: [u8; 256] = instruction_set!(unconstrained_lengths);
 
 /// The rows in the order of the opcodes' numbers.
 fn rows() -> &'static [Row]
@@ -354,21 +355,21 @@ pub(crate) fn row_at(number: u8) -> Option<&'static Row>
     Some(row)
 }
 
-/// The lengths of plain instructions by all numbers of a byte.
+/// The lengths of instructions with unconstrained operands by all numbers of a byte.
 #[inline(always)]
-fn plain_lengths() -> &'static [u8; 256]
-    ensures { result.now ≡ map (λ o. plain_length (Some o)) opcodes ++ replicate 54 0 }
+fn unconstrained_lengths() -> &'static [u8; 256]
+    ensures { result.now ≡ map (λ o. unconstrained_length (Some o)) opcodes ++ replicate 54 0 }
 {
-    &PLAIN_LENGTHS
+    &UNCONSTRAINED_LENGTHS
 }
 
 /// How many bytes an instruction of the opcode of this number has, where any bytes are its operands; otherwise, and
 /// for `new`, 0.
 #[inline(always)]
-pub(crate) fn plain_length(number: u8) -> usize
-    ensures { result ≡ plain_length (opcode_of number) }
+pub(crate) fn unconstrained_length(number: u8) -> usize
+    ensures { result ≡ unconstrained_length (opcode_of number) }
 {
-    usize::from(plain_lengths()[number as usize])
+    usize::from(unconstrained_lengths()[number as usize])
 }
 
 impl Opcode {

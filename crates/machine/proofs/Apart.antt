@@ -5,7 +5,7 @@ use Rattle.insn.specs.declared.stack.StackOperator.{StackOperator}
 use Rattle.insn.specs.declared.stack.StackOperator.TheVariants.{Pop, Pop2, Dup, DupX1, DupX2, Dup2, Dup2X1, Dup2X2, Swap}
 use Rattle.insn.specs.declared.stack.StackPlace.{StackPlace}
 use Rattle.insn.specs.declared.stack.StackPlace.TheVariants.{Narrow, Wide}
-use Rattle.insn.specs.Acts.{StackForm, stack_forms}
+use Rattle.insn.specs.Operators.{StackForm, stack_forms}
 use Rattle.insn.specs.Offsets.{IsAmong}
 use Rattle.machine.specs.Values.{Value}
 use Rattle.machine.specs.Demands.{AreForm}

@@ -5,7 +5,7 @@ use Rattle.classfile.specs.Methods.{Method}
 use Rattle.hierarchy.specs.World.{World}
 use Rattle.insn.specs.Meanings.{Act}
 use Rattle.insn.specs.Offsets.{at_offset, led_to}
-use Rattle.insn.specs.Stacks.{beneath}
+use Rattle.insn.specs.OperandStacks.{beneath}
 use Rattle.machine.specs.Values.{Value, null, reference}
 use Rattle.machine.specs.Heap.{Status, ready, made, Object, object, Heap, with_object}
 use Rattle.machine.specs.Effects as effects

@@ -7,10 +7,10 @@ use Rattle.names.specs.ReferenceTypes.{ReferenceType}
 use Rattle.hierarchy.specs.World.{World}
 use Rattle.classfile.specs.Methods.{Method}
 use Rattle.insn.specs.declared.stack.StackOperator.{StackOperator}
-use Rattle.insn.specs.Acts.{StackForm, stack_forms}
+use Rattle.insn.specs.Operators.{StackForm, stack_forms}
 use Rattle.insn.specs.Meanings.{Act}
 use Rattle.insn.specs.Offsets.{IsAmong}
-use Rattle.insn.specs.Stacks.{beneath, rearranged}
+use Rattle.insn.specs.OperandStacks.{beneath, rearranged}
 use Rattle.machine.specs.declared.items.Value.{Value as RawValue}
 use Rattle.machine.specs.declared.items.Value.TheVariants as values
 use Rattle.machine.specs.declared.snapshot.State.{State as RawState}

@@ -7,7 +7,7 @@ use Rattle.insn.specs.declared.stack.StackPlace.TheVariants.{Narrow, Wide}
 use Rattle.insn.specs.declared.stack.StackOperator.{StackOperator}
 use Rattle.insn.specs.declared.stack.StackForm as raw
 use Rattle.insn.specs.Views.{stack_form_view}
-use Rattle.insn.specs.Acts.{StackForm, stack_forms}
+use Rattle.insn.specs.Operators.{StackForm, stack_forms}
 use Rattle.insn.specs.Offsets.{IsAmong}
 use Rattle.machine.specs.Values.{Value, Slot, empty, second, holds, is_wide_value, ArePairedBehind, place_of}
 use Rattle.machine.specs.Demands.{State, AreForm, HasForm}

@@ -4,7 +4,7 @@ use Rattle.std.proofs.lemmas.Bool.{cases_lt}
 use Rattle.std.proofs.lemmas.List.{drop_all, map-append, reverse-append, length-map, length-reverse, length-drop, take-append-drop, take_rest, get_or-reverse}
 use Rattle.std.proofs.Math.ListN.{get_or-map}
 use Rattle.std.proofs.lemmas.Option.{slice_get-get_or, slice_get_past}
-use Rattle.insn.specs.Stacks.{beneath, chosen, with_item}
+use Rattle.insn.specs.OperandStacks.{beneath, chosen, with_item}
 use Rattle.machine.specs.declared.items.Value.{Value as RawValue}
 use Rattle.machine.specs.Views.{value_view, stack_of}
 

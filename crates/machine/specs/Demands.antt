@@ -6,8 +6,8 @@ use Rattle.hierarchy.specs.World.{World}
 use Rattle.classfile.specs.Methods.{Method, ExceptionEntry, covers}
 use Rattle.insn.specs.declared.operation.Kind.TheVariants as kinds
 use Rattle.insn.specs.declared.stack.StackPlace.{StackPlace}
-use Rattle.insn.specs.Acts.{StackForm}
-use Rattle.insn.specs.Stacks.{beneath, rearranged}
+use Rattle.insn.specs.Operators.{StackForm}
+use Rattle.insn.specs.OperandStacks.{beneath, rearranged}
 use Rattle.insn.specs.Offsets.{at_offset, IsStart, next_offset, IsAmong}
 use Rattle.insn.specs.Meanings.{Act}
 use Rattle.machine.specs.Values.{Value, number, reference, Slot, holds, is_wide_value, units, depth_of, ArePaired, place_of}

@@ -13,8 +13,8 @@ use Rattle.classfile.specs.Methods.{Method, is_own_field}
 use Rattle.classfile.specs.Naming.{begins_with}
 use Rattle.insn.specs.declared.operation.Kind.{Kind}
 use Rattle.insn.specs.declared.operation.Kind.TheVariants as kinds
-use Rattle.insn.specs.Acts.{kind_units, numeric_row, StackForm, stack_forms}
-use Rattle.insn.specs.Stacks.{computed_as, same_kind}
+use Rattle.insn.specs.Kinds.{kind_units, computed_as, same_kind}
+use Rattle.insn.specs.Operators.{numeric_row, StackForm, stack_forms}
 use Rattle.insn.specs.Offsets.{led_to}
 use Rattle.insn.specs.Meanings as acts
 use Rattle.insn.specs.Meanings.{Act}

@@ -5,8 +5,8 @@ use Rattle.names.specs.Descriptors.{FieldDescriptor, primitive, class, array}
 use Rattle.names.specs.ReferenceTypes.{ReferenceType, class_type, array_type, descriptor_of, dimensions_of}
 use Rattle.names.specs.StandardNames.{object_name, cloneable_name, serializable_name}
 use Rattle.hierarchy.specs.World.{Entry, World, IsSubclassIn}
-use Rattle.insn.specs.Acts.{takes_array}
-use Rattle.insn.specs.Stacks.{computed_as}
+use Rattle.insn.specs.Operators.{takes_array}
+use Rattle.insn.specs.Kinds.{computed_as}
 use Rattle.machine.specs.Values.{Value, number, null, reference}
 
 -- Which constructors have returned: one of the object; none, and it was made by this run's `new`; none, and it is the

@@ -12,7 +12,7 @@ use Rattle.hierarchy.specs.World.{World}
 use Rattle.insn.specs.declared.operation.Kind.{Kind}
 use Rattle.insn.specs.declared.operation.Kind.TheVariants as kinds
 use Rattle.insn.specs.declared.stack.StackOperator.{StackOperator}
-use Rattle.insn.specs.Acts.{numeric_row}
+use Rattle.insn.specs.Operators.{numeric_row}
 use Rattle.insn.specs.ByUnits.{top_units, passed_units, moved_by}
 use Rattle.insn.specs.Meanings as acts
 use Rattle.insn.specs.Meanings.{Act}

@@ -6,8 +6,8 @@ use Rattle.names.specs.ReferenceTypes.{ReferenceType, class_type, array_type}
 use Rattle.names.specs.StandardNames.{throwable_name}
 use Rattle.hierarchy.specs.World.{World}
 use Rattle.classfile.specs.Methods.{Method, ExceptionEntry, covers}
-use Rattle.insn.specs.Acts.{StackForm}
-use Rattle.insn.specs.Stacks.{beneath, rearranged}
+use Rattle.insn.specs.Operators.{StackForm}
+use Rattle.insn.specs.OperandStacks.{beneath, rearranged}
 use Rattle.insn.specs.Offsets.{at_offset, next_offset, IsAmong}
 use Rattle.insn.specs.Meanings.{Act}
 use Rattle.machine.specs.Values.{Value, number, null, reference, holds, stored}

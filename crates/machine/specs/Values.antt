@@ -4,8 +4,7 @@ use Rattle.names.specs.Descriptors.{FieldDescriptor, primitive, class, array}
 use Rattle.insn.specs.declared.operation.Kind.{Kind}
 use Rattle.insn.specs.declared.stack.StackPlace.{StackPlace}
 use Rattle.insn.specs.declared.stack.StackPlace.TheVariants.{Narrow, Wide}
-use Rattle.insn.specs.Acts.{is_wide, kind_units}
-use Rattle.insn.specs.Stacks.{computed_as}
+use Rattle.insn.specs.Kinds.{is_wide, kind_units, computed_as}
 
 pub data Value : Type 0 where
   number : (kind : Kind) → Value

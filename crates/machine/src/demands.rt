@@ -1,9 +1,9 @@
 //! The demands of an instruction on its state.
 ghost use Rattle.std.specs.Prelude.{◌≡◌, ◌↔◌, ◌⊎◌, ◌+◌, ◌≤◌, IsTrue, IfOk};
 ghost use Rattle.hierarchy.specs.Class.{world_of};
-ghost use Rattle.insn.specs.Acts.{stack_forms};
+ghost use Rattle.insn.specs.Operators.{stack_forms};
 ghost use Rattle.insn.specs.Branching.{targets_of};
-ghost use Rattle.insn.specs.Stacks.{beneath};
+ghost use Rattle.insn.specs.OperandStacks.{beneath};
 ghost use Rattle.machine.specs.Values.{depth_of};
 ghost use Rattle.machine.specs.private.EffectViews.{demands_view, demand_units, reply_view, effect_view};
 ghost use Rattle.machine.specs.Demands.{AllMeet, IsMade, IsOwn, HasReceiver, MeetsRest, HasRoom, EndsReady};

@@ -3,7 +3,7 @@ ghost use Rattle.std.specs.Prelude.{◌≡◌, [], ◌∷◌, None, Some, true, 
 ghost use Rattle.names.specs.Descriptors.{primitive, class};
 ghost use Rattle.names.specs.ReferenceTypes.{class_type};
 ghost use Rattle.names.specs.StandardNames.{object_name};
-ghost use Rattle.insn.specs.Stacks.{computed_as};
+ghost use Rattle.insn.specs.Kinds.{computed_as};
 ghost use Rattle.insn.specs.declared.operation.Kind.TheVariants as kinds;
 ghost use Rattle.names.specs.Types.{type_of};
 ghost use Rattle.pool.specs.ConstantMeanings.{constant_at, dynamic_type_at};

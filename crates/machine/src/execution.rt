@@ -2,8 +2,8 @@
 ghost use Rattle.std.specs.Prelude.{◌≡◌, ◌↔◌, IsTrue, None, option_map};
 ghost use Rattle.hierarchy.specs.Class.{world_of};
 ghost use Rattle.names.specs.ReferenceTypes.{class_type};
-ghost use Rattle.insn.specs.Acts.{stack_forms};
-ghost use Rattle.insn.specs.Stacks.{beneath};
+ghost use Rattle.insn.specs.Operators.{stack_forms};
+ghost use Rattle.insn.specs.OperandStacks.{beneath};
 ghost use Rattle.machine.specs.Heap.{made, ready, object};
 ghost use Rattle.machine.specs.Effects.{takes_element, passes};
 ghost use Rattle.machine.specs.Steps.{IsLive, moved};

@@ -2,7 +2,7 @@
 ghost use Rattle.std.specs.Prelude.{◌≡◌, ◌+◌, ◌≤◌, ◌↔◌, IsTrue, option_map, map, slice_get, false};
 ghost use Rattle.names.specs.Types.{type_of};
 ghost use Rattle.hierarchy.specs.Class.{world_of};
-ghost use Rattle.insn.specs.Acts.{stack_forms};
+ghost use Rattle.insn.specs.Operators.{stack_forms};
 ghost use Rattle.insn.specs.Views.{stack_form_view};
 ghost use Rattle.machine.specs.Effects.{demand_of};
 ghost use Rattle.machine.specs.Demands.{Meets, AllMeet, HasLocal, HasForm};

@@ -1,6 +1,6 @@
 //! The operand stack, of which the last item is the top.
 ghost use Rattle.std.specs.Prelude.{◌≡◌, ◌++◌, IfOk, OnOk, drop, slice_get, option_map};
-ghost use Rattle.insn.specs.Stacks.{beneath, chosen, rearranged};
+ghost use Rattle.insn.specs.OperandStacks.{beneath, chosen, rearranged};
 ghost use Rattle.insn.specs.Views.{stack_form_view};
 ghost use Rattle.machine.specs.private.EffectViews.{demands_view};
 ghost use Rattle.machine.specs.Views.{value_view, stack_of};

@@ -4,8 +4,8 @@ use Rattle.std.proofs.lemmas.List.{drop_more, drop_all, reverse-append, length-a
 use Rattle.std.proofs.Math.Seq.{drop-append-add, take-append_seam}
 use Rattle.std.proofs.Math.ListN.{get_or-append}
 use Rattle.std.proofs.lemmas.Option.{slice_get-get_or, slice_get_past}
-use Rattle.insn.specs.Acts.{StackForm}
-use Rattle.insn.specs.Stacks.{beneath, chosen, with_item, rearranged}
+use Rattle.insn.specs.Operators.{StackForm}
+use Rattle.insn.specs.OperandStacks.{beneath, chosen, with_item, rearranged}
 use Rattle.method_frames.specs.private.Moves.{Pushes}
 
 -- ---- what is pushed

@@ -4,8 +4,8 @@ use Rattle.std.specs.Prelude.{IfSome}
 use Rattle.std.proofs.lemmas.Bool.{cases_lt}
 use Rattle.std.proofs.lemmas.List.{length-reverse, length-drop, get_or-drop, get_or-reverse, get_or_past}
 use Rattle.std.proofs.lemmas.Option.{slice_get-get_or, slice_get_past}
-use Rattle.insn.specs.Acts.{StackForm}
-use Rattle.insn.specs.Stacks.{beneath, chosen, with_item, rearranged}
+use Rattle.insn.specs.Operators.{StackForm}
+use Rattle.insn.specs.OperandStacks.{beneath, chosen, with_item, rearranged}
 use Rattle.type_numbers.specs.Numbers.{Numbering, IsGiven}
 use Rattle.method_frames.specs.private.Known.{AreGiven}
 use Rattle.method_frames.proofs.Given.{top_given}

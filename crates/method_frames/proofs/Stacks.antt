@@ -2,8 +2,8 @@
 use Rattle.std.proofs.Common.{◌≡◌, ◌∙◌, ℕ, ◌+◌, ◌-◌, ◌<◌, ◌≤◌, List, [], ◌∷◌, ◌++◌, length, map, take, drop, get_or, reverse, Result, Ok, Err, OnOk, OnErr, sym, ap, subst, inl, inr, arith}
 use Rattle.std.proofs.lemmas.Bool.{cases_lt}
 use Rattle.std.proofs.lemmas.List.{length-append, length-reverse, length-drop, length-take-le, take-append-drop, get_or_append_left, get_or_past, get_or-take, reverse-append, reverse-reverse}
-use Rattle.insn.specs.Acts.{StackForm}
-use Rattle.insn.specs.Stacks.{chosen, rearranged}
+use Rattle.insn.specs.Operators.{StackForm}
+use Rattle.insn.specs.OperandStacks.{chosen, rearranged}
 use Rattle.frames.specs.Slots.{units_of}
 use Rattle.type_numbers.specs.Numbers.{Numbering, IsGiven}
 use Rattle.type_numbers.specs.Decoding.{types_by}

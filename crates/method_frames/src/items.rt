@@ -1,6 +1,6 @@
 //! The items of an operand stack, by the numbers of their types.
 ghost use Rattle.std.specs.Prelude.{◌≡◌, ℕ, ◌+◌, ◌≤◌, ◌<◌, ◌-◌, true, [], ◌∷◌, ◌++◌, length, map, reverse, take, vec_len, vec_capacity, OnOk, OnErr};
-ghost use Rattle.insn.specs.Stacks.{rearranged};
+ghost use Rattle.insn.specs.OperandStacks.{rearranged};
 ghost use Rattle.insn.specs.Views.{stack_form_view};
 ghost use Rattle.method_frames.specs.Objects.{is_object, replaced, holds};
 ghost use Rattle.method_frames.specs.private.Holders.{AreListed, AreListedFrom, KeepsListed};

@@ -78,7 +78,7 @@ impl<'t, 'c, 'n, C: Classes> MethodFrames<'t, 'c, 'n, C> {
     ghost use Rattle.std.specs.Prelude.{◌↔◌, ◌≤◌, [], ◌∷◌, ◌++◌, true, false, None, Some, IsTrue, map, replicate, slice_set, slice_get, IfOk, IfSome, IsSomeAnd, MatchOption, OnErr};
     ghost use Rattle.hierarchy.specs.Answer.{outcome_of, yes};
     ghost use Rattle.insn.specs.Offsets.{at_offset};
-    ghost use Rattle.insn.specs.Stacks.{rearranged};
+    ghost use Rattle.insn.specs.OperandStacks.{rearranged};
     ghost use Rattle.insn.specs.Views.{stack_form_view};
     ghost use Rattle.frames.specs.Slots.{units_of};
     ghost use Rattle.frames.specs.Assignable.{type_answer};

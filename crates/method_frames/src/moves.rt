@@ -1,6 +1,6 @@
 //! The items of an operand stack in place, by the numbers of their types.
 ghost use Rattle.std.specs.Prelude.{◌≡◌, ◌≤◌, ◌-◌, length, take, reverse, OnOk};
-ghost use Rattle.insn.specs.Stacks.{rearranged};
+ghost use Rattle.insn.specs.OperandStacks.{rearranged};
 ghost use Rattle.insn.specs.Views.{stack_form_view};
 ghost use Rattle.method_frames.specs.private.Moves.{Pushes};
 

@@ -90,7 +90,7 @@ fn read<C: Classes>(
 impl<'t, 'c, 'n, C: Classes> StackRows<'t, 'c, 'n, C> {
     ghost use Rattle.std.specs.Prelude.{◌≡◌, ◌↔◌, ◌<◌, ◌≤◌, [], ◌∷◌, ◌++◌, true, false, length, map, slice_index, slice_get, IsTrue, IfOk, IfSome, MatchOption, OnOk, OnErr};
     ghost use Rattle.hierarchy.specs.Answer.{outcome_of};
-    ghost use Rattle.insn.specs.Stacks.{rearranged};
+    ghost use Rattle.insn.specs.OperandStacks.{rearranged};
     ghost use Rattle.insn.specs.Views.{stack_form_view};
     ghost use Rattle.frames.specs.Slots.{is_wide, units_of};
     ghost use Rattle.frames.specs.FrameAssignable.{item_answer, stack_answer};

@@ -10,7 +10,7 @@ use Rattle.names.specs.Descriptors.{primitive, class as class_descriptor, array 
 use Rattle.names.specs.StandardNames.{object_name}
 use Rattle.hierarchy.specs.Class.{ClassFact}
 use Rattle.hierarchy.specs.Answer.{Outcome, yes}
-use Rattle.insn.specs.Stacks.{beneath}
+use Rattle.insn.specs.OperandStacks.{beneath}
 use Rattle.frames.specs.VerificationType.{VerificationType, null, class, array, uninit_this, uninit}
 use Rattle.frames.specs.Assignable.{type_answer}
 use Rattle.frames.specs.FrameAssignable.{both}

@@ -10,7 +10,7 @@ use Rattle.hierarchy.specs.Class.{ClassFact}
 use Rattle.hierarchy.specs.Places.{place_in}
 use Rattle.hierarchy.proofs.Names.{none_some, some_same}
 use Rattle.insn.specs.Meanings.{Act}
-use Rattle.insn.specs.Stacks.{beneath}
+use Rattle.insn.specs.OperandStacks.{beneath}
 use Rattle.insn.specs.declared.operation.Kind.TheVariants.{Int}
 use Rattle.frames.specs.Conditions.{reason}
 use Rattle.frames.specs.FrameFact.{FrameFact}

@@ -10,8 +10,8 @@ use Rattle.insn.specs.Meanings.{Act}
 use Rattle.insn.specs.declared.stack.StackOperator.TheVariants.{Dup}
 use Rattle.insn.specs.declared.stack.StackPlace.{StackPlace}
 use Rattle.insn.specs.declared.stack.StackPlace.TheVariants.{Narrow}
-use Rattle.insn.specs.Acts.{StackForm, stack_forms}
-use Rattle.insn.specs.Stacks.{beneath, chosen, with_item, rearranged}
+use Rattle.insn.specs.Operators.{StackForm, stack_forms}
+use Rattle.insn.specs.OperandStacks.{beneath, chosen, with_item, rearranged}
 use Rattle.frames.specs.VerificationType.{VerificationType, top}
 use Rattle.frames.specs.FrameFact.{FrameFact}
 use Rattle.frames.proofs.Units.{units_least}

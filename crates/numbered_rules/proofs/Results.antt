@@ -6,7 +6,7 @@ use Rattle.names.specs.ReferenceTypes.{ReferenceType, class_type, array_type}
 use Rattle.hierarchy.proofs.Names.{none_some, some_same}
 use Rattle.insn.specs.declared.operation.Kind.{Kind}
 use Rattle.insn.specs.declared.operation.Kind.TheVariants.{Int, Long, Float, Double}
-use Rattle.insn.specs.Stacks.{computed_as, same_kind}
+use Rattle.insn.specs.Kinds.{computed_as, same_kind}
 use Rattle.frames.specs.VerificationType.{class, array}
 use Rattle.frames.specs.Slots.{descriptor_type, number_type, to_reference}
 use Rattle.type_numbers.specs.Numbers.{Numbering, IsNumber, IsNumberOf}

@@ -4,7 +4,7 @@ use Rattle.std.proofs.lemmas.Bool.Decides.{nat_tests}
 use Rattle.names.specs.declared.base.Primitive.{Primitive}
 use Rattle.names.specs.Descriptors.{dimensioned, primitive}
 use Rattle.hierarchy.proofs.Names.{none_some, some_same}
-use Rattle.insn.specs.Acts.{takes_array}
+use Rattle.insn.specs.Operators.{takes_array}
 use Rattle.frames.specs.VerificationType.{VerificationType, top, int, float, long, double, null, array, uninit_this, uninit}
 use Rattle.frames.specs.DeclaredFrames.{is_uninit_this}
 use Rattle.type_numbers.specs.Numbers.{Numbering, IsNumber}

@@ -1,6 +1,7 @@
 //! Instructions that take operands off the stack and push a result, and the loads and stores of numbers and references.
 ghost use Rattle.std.specs.Prelude.{◌≡◌, [], ◌∷◌, true, length};
-ghost use Rattle.insn.specs.Acts.{kind_units, numeric_row};
+ghost use Rattle.insn.specs.Kinds.{kind_units};
+ghost use Rattle.insn.specs.Operators.{numeric_row};
 ghost use Rattle.insn.specs.declared.operation.Kind.TheVariants.{Int};
 ghost use Rattle.frames.specs.Slots.{number_type};
 ghost use Rattle.frames.specs.VerificationType.{class, int, null};

@@ -1,6 +1,6 @@
 //! Instructions that take no operand and push one type, where the numbers of types tell at once that they may.
 ghost use Rattle.std.specs.Prelude.{◌≡◌, ◌≤◌, length, IfSome};
-ghost use Rattle.insn.specs.Acts.{stack_forms};
+ghost use Rattle.insn.specs.Operators.{stack_forms};
 ghost use Rattle.insn.specs.declared.stack.StackOperator.TheVariants.{Dup};
 ghost use Rattle.insn.specs.Views.{act_view};
 ghost use Rattle.rules.specs.TypingRules.{ExpectedType, loads, rearranges};

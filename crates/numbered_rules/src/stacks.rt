@@ -1,6 +1,6 @@
 //! Instructions that move what is on the stack.
 ghost use Rattle.std.specs.Prelude.{◌≡◌, map, option_map};
-ghost use Rattle.insn.specs.Acts.{stack_forms};
+ghost use Rattle.insn.specs.Operators.{stack_forms};
 ghost use Rattle.insn.specs.Views.{stack_form_view};
 ghost use Rattle.frames.specs.VerificationType.{VerificationType};
 ghost use Rattle.type_numbers.specs.Numbers.{Numbering, IsNumber};

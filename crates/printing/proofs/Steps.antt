@@ -6,8 +6,8 @@ use Rattle.insn.specs.declared.fault.CodeFault.{CodeFault}
 use Rattle.insn.specs.Instructions.{Instruction}
 use Rattle.insn.specs.Code.{StepsThrough, StepsBy}
 use Rattle.insn.specs.Offsets.{at_offset, by_made}
-use Rattle.insn.specs.Readings.{Reading, behind}
-use Rattle.insn.proofs.Readings.{reading_at, step_reads, stop_reads, end_reads}
+use Rattle.insn.specs.CodeResults.{Reading, behind}
+use Rattle.insn.proofs.CodeResults.{reading_at, step_reads, stop_reads, end_reads}
 use Rattle.insn.proofs.CodeLaws.{told_step, shorter}
 use Rattle.printing.specs.Classes.{fault_of}
 

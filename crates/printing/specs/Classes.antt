@@ -8,7 +8,7 @@ use Rattle.classfile.specs.Values.{Handler, CodeBody, Member, Component, ClassAt
 use Rattle.classfile.specs.Methods.{code_of}
 use Rattle.insn.specs.declared.fault.CodeFault.{CodeFault}
 use Rattle.insn.specs.Offsets.{at_offset}
-use Rattle.insn.specs.Readings.{Reading, reading_of}
+use Rattle.insn.specs.CodeResults.{Reading, code_result}
 use Rattle.printing.specs.Faults.{code_fault_text}
 use Rattle.printing.specs.Names.{hexadecimal, constant_text, class_text}
 use Rattle.insn.specs.Instructions.{Instruction}
@@ -59,7 +59,7 @@ catch_string pool h = range_text h ++ (codes " " ++ caught_text Json pool h.catc
 
 abbrev pub code_lines : List Entry → CodeBody → List ℕ
 code_lines pool body = sizes_line body
-    ++ (reading_lines (reading_of body.code) ++ flat_map (catch_line pool) body.exception_table)
+    ++ (reading_lines (code_result body.code) ++ flat_map (catch_line pool) body.exception_table)
 
 -- why the code is refused, if it is
 abbrev pub fault_of : Reading → Option CodeFault
@@ -107,7 +107,7 @@ method_lines pool m = member_line (codes "method ") pool m ++ lines_of_code pool
 
 abbrev pub is_refused_code : Option CodeBody → Bool
 is_refused_code None = false
-is_refused_code (Some body) = is_some (fault_of (reading_of body.code))
+is_refused_code (Some body) = is_some (fault_of (code_result body.code))
 
 -- its code is refused
 abbrev pub is_refused_method : Member → Bool

@@ -4,7 +4,7 @@ ghost use Rattle.std.specs.Option.{option_map_or};
 ghost use Rattle.std.specs.List.{flat_map};
 ghost use Rattle.insn.specs.Instructions.{Instruction};
 ghost use Rattle.insn.specs.Offsets.{at_offset};
-ghost use Rattle.insn.specs.Readings.{reading_of};
+ghost use Rattle.insn.specs.CodeResults.{code_result};
 ghost use Rattle.insn.specs.Views.{view};
 ghost use Rattle.classfile.specs.Views.{handler_view, code_view};
 ghost use Rattle.printing.specs.Writing.{Writes};
@@ -26,7 +26,7 @@ use std::io::Write;
 
 /// Why the bytes are no code: the fault of the first instruction that is none. Takes no memory.
 pub fn code_fault(code: &[u8]) -> Option<CodeFault>
-    ensures { result ≡ fault_of (reading_of code.now) }
+    ensures { result ≡ fault_of (code_result code.now) }
 {
     let mut instructions = Instructions::new(code);
     while let Some(step) = instructions.next_start() {
@@ -40,7 +40,7 @@ pub fn code_fault(code: &[u8]) -> Option<CodeFault>
 
 /// The instructions of code that is not refused, each on its line.
 fn put_instructions<W: Write>(out: &mut W, code: &[u8]) -> Result<(), WriteFailed>
-    ensures { (xs : List (ℕ × Instruction)) → reading_of code.now ≡ Ok xs
+    ensures { (xs : List (ℕ × Instruction)) → code_result code.now ≡ Ok xs
         → Writes (W.contents out.old) (W.contents out.new) (flat_map instruction_line xs) result }
 {
     for step in Instructions::new(code) {
@@ -60,7 +60,7 @@ fn put_instructions<W: Write>(out: &mut W, code: &[u8]) -> Result<(), WriteFaile
 pub struct Instructed<'a>(pub &'a [u8]);
 
 impl<'a> Print for Instructed<'a> {
-    ghost text = { λ t. reading_lines (reading_of t.0.now) };
+    ghost text = { λ t. reading_lines (code_result t.0.now) };
 
     fn put<W: Write>(&self, out: &mut W) -> Result<(), WriteFailed> {
         match code_fault(self.0) {
@@ -72,7 +72,7 @@ impl<'a> Print for Instructed<'a> {
 
 /// The instruction that begins at an offset of code that is not refused. Takes no memory.
 fn found_at(code: &[u8], at: usize) -> Option<Insn<'_>>
-    ensures { (xs : List (ℕ × Instruction)) → reading_of code.now ≡ Ok xs → option_map view result ≡ at_offset xs at }
+    ensures { (xs : List (ℕ × Instruction)) → code_result code.now ≡ Ok xs → option_map view result ≡ at_offset xs at }
 {
     for step in Instructions::new(code) {
         match step {
@@ -106,7 +106,7 @@ pub struct InstructionAt<'a> {
 }
 
 impl<'a> Print for InstructionAt<'a> {
-    ghost text = { λ t. line_at (reading_of t.code.now) t.at };
+    ghost text = { λ t. line_at (code_result t.code.now) t.at };
 
     fn put<W: Write>(&self, out: &mut W) -> Result<(), WriteFailed> {
         match code_fault(self.code) {
@@ -145,7 +145,7 @@ pub struct InstructionFields<'a, B> {
 }
 
 impl<'a, B: Print + Copy> Print for InstructionFields<'a, B> {
-    ghost text = { λ t. fields_then (instruction_fields (reading_of t.code.now) t.at) (B.text t.behind) };
+    ghost text = { λ t. fields_then (instruction_fields (code_result t.code.now) t.at) (B.text t.behind) };
 
     fn put<W: Write>(&self, out: &mut W) -> Result<(), WriteFailed> {
         match code_fault(self.code) {
@@ -196,7 +196,7 @@ pub struct NamedAt<'p, 'a> {
 }
 
 impl<'p, 'a> Print for NamedAt<'p, 'a> {
-    ghost text = { λ t. named_at t.pool.now (reading_of t.code.now) t.at };
+    ghost text = { λ t. named_at t.pool.now (code_result t.code.now) t.at };
 
     fn put<W: Write>(&self, out: &mut W) -> Result<(), WriteFailed> {
         match code_fault(self.code) {
@@ -258,7 +258,7 @@ pub struct NamedFields<'p, 'a, B> {
 }
 
 impl<'p, 'a, B: Print + Copy> Print for NamedFields<'p, 'a, B> {
-    ghost text = { λ t. fields_then (named_fields_at t.pool.now (reading_of t.code.now) t.at) (B.text t.behind) };
+    ghost text = { λ t. fields_then (named_fields_at t.pool.now (code_result t.code.now) t.at) (B.text t.behind) };
 
     fn put<W: Write>(&self, out: &mut W) -> Result<(), WriteFailed> {
         match code_fault(self.code) {

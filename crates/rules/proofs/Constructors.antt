@@ -5,7 +5,7 @@ use Rattle.classfile.specs.Methods.{Method}
 use Rattle.hierarchy.specs.Class.{ClassFact}
 use Rattle.hierarchy.specs.Answer.{Outcome, yes, no, missing}
 use Rattle.insn.specs.Meanings.{Act}
-use Rattle.insn.specs.Stacks.{beneath}
+use Rattle.insn.specs.OperandStacks.{beneath}
 use Rattle.frames.specs.VerificationType.{VerificationType, uninit}
 use Rattle.frames.specs.FrameFact.{FrameFact}
 use Rattle.frames.specs.Conditions.{reason, Conditions, least, is_no, missing_if}

@@ -16,7 +16,7 @@ use Rattle.frames.specs.VerificationType.{array}
 use Rattle.frames.specs.Slots.{to_reference, descriptor_type}
 use Rattle.insn.specs.Meanings as acts
 use Rattle.insn.specs.Meanings.{Act}
-use Rattle.insn.specs.Stacks.{same_kind, computed_as}
+use Rattle.insn.specs.Kinds.{same_kind, computed_as}
 use Rattle.rules.specs.TypingRules.{TypingRule, pops, makes, constructs, calls_special, sizes, number, refuses, falls, offsets_of, where_judged, where_allowed, where_bootstrapped, call_of, gives, arguments_on, expected_class, result_types}
 use Rattle.rules.specs.Constants.{is_bootstrapped, load_dynamic, load_constant, load_wide_constant, get_static, put_static, get_field, put_field, invoke_static, invoke_virtual, invoke_interface, static_call, call_on, may_invoke_interface, new_array, new_reference_array, new_multi_array, check_cast, instance_of, is_init_name, constructor_call, special_call, invoke_special, is_special_name, dynamic_call, invoke_dynamic, new_object}
 use Rattle.rules.specs.Table.{typing_rule, return_number, return_reference, return_nothing, leaves_with}

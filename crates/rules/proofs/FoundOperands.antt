@@ -7,7 +7,7 @@ use Rattle.hierarchy.specs.Answer.{Outcome, yes, no, missing}
 use Rattle.insn.specs.declared.operation.Kind.TheVariants.{Int}
 use Rattle.insn.specs.Meanings.{Act}
 use Rattle.insn.specs.Offsets.{IsAmong}
-use Rattle.insn.specs.Stacks.{beneath, units_taken}
+use Rattle.insn.specs.OperandStacks.{beneath, units_taken}
 use Rattle.frames.specs.VerificationType.{VerificationType, class}
 use Rattle.frames.specs.FrameFact.{FrameFact}
 use Rattle.frames.specs.Assignable.{type_answer}

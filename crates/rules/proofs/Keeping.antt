@@ -12,7 +12,7 @@ use Rattle.insn.specs.declared.operation.Kind.{Kind}
 use Rattle.insn.specs.declared.operation.Kind.TheVariants as kinds
 use Rattle.insn.specs.Meanings as acts
 use Rattle.insn.specs.Meanings.{Act}
-use Rattle.insn.specs.Stacks.{same_kind, computed_as}
+use Rattle.insn.specs.Kinds.{same_kind, computed_as}
 use Rattle.frames.specs.VerificationType.{array}
 use Rattle.frames.specs.Slots.{to_reference, descriptor_type}
 use Rattle.rules.specs.TypingRules.{TypingRule, number, pops, stores, makes, constructs, refuses, gives, sizes, call_of, where_judged, where_allowed, where_bootstrapped}

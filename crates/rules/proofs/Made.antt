@@ -7,7 +7,7 @@ use Rattle.classfile.specs.Methods.{Method, class_named}
 use Rattle.pool.specs.ConstantMeanings.{MethodConstant, class_at, method_at}
 use Rattle.insn.specs.Meanings as acts
 use Rattle.insn.specs.Meanings.{Act}
-use Rattle.insn.specs.Stacks.{beneath}
+use Rattle.insn.specs.OperandStacks.{beneath}
 use Rattle.frames.specs.FrameFact.{FrameFact}
 use Rattle.frames.specs.Marks.{new_index}
 use Rattle.frames.specs.VerificationType.{VerificationType}

@@ -3,7 +3,7 @@ use Rattle.std.proofs.Common.{◌≡◌, ℕ, ◌+◌, ◌<◌, ◌≤◌, Bool,
 use Rattle.std.proofs.lemmas.List.{drop_more, drop_all}
 use Rattle.insn.specs.declared.stack.StackPlace.{StackPlace}
 use Rattle.insn.specs.declared.stack.StackForm as raw
-use Rattle.insn.specs.Acts.{StackForm}
+use Rattle.insn.specs.Operators.{StackForm}
 use Rattle.insn.specs.Views.{stack_form_view}
 use Rattle.frames.specs.VerificationType.{VerificationType}
 use Rattle.rules.specs.After.{fits_place, fits_places, form_for}

@@ -11,8 +11,8 @@ use Rattle.hierarchy.specs.Answer.{Outcome, yes, no, missing, outcome_of}
 use Rattle.insn.specs.declared.operation.Act as program
 use Rattle.insn.specs.Meanings.{Act}
 use Rattle.insn.specs.Views.{act_view}
-use Rattle.insn.specs.Acts.{StackForm}
-use Rattle.insn.specs.Stacks.{beneath, rearranged, units_taken}
+use Rattle.insn.specs.Operators.{StackForm}
+use Rattle.insn.specs.OperandStacks.{beneath, rearranged, units_taken}
 use Rattle.frames.specs.VerificationType.{VerificationType}
 use Rattle.frames.specs.FrameFact.{FrameFact}
 use Rattle.frames.specs.Slots.{units_of}

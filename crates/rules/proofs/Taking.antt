@@ -5,7 +5,7 @@ use Rattle.std.proofs.lemmas.List.{drop_more, drop_all}
 use Rattle.std.proofs.lemmas.Bool.{cases_lt, false≢true}
 use Rattle.hierarchy.specs.Class.{ClassFact}
 use Rattle.hierarchy.specs.Answer.{Outcome, yes, no, missing}
-use Rattle.insn.specs.Stacks.{beneath}
+use Rattle.insn.specs.OperandStacks.{beneath}
 use Rattle.frames.specs.VerificationType.{VerificationType}
 use Rattle.frames.specs.FrameAssignable.{both}
 use Rattle.frames.specs.FrameFact.{FrameFact}

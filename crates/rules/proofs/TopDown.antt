@@ -1,7 +1,7 @@
 -- Operands from the top of the stack down, one after the other.
 use Rattle.std.proofs.Common.{◌≡◌, ◌∙◌, ℕ, suc, ◌+◌, ◌-◌, ◌<◌, ◌≤◌, List, [], ◌∷◌, ◌++◌, map, length, take, drop, reverse, get_or, Option, sym, ap, arith, drop-cons}
 use Rattle.std.proofs.lemmas.List.{take-append-drop, reverse-append, map-append, drop_all, take_more, take_all}
-use Rattle.insn.specs.Stacks.{beneath}
+use Rattle.insn.specs.OperandStacks.{beneath}
 use Rattle.frames.specs.declared.vtype.VType.{VType}
 use Rattle.frames.specs.VerificationType.{VerificationType, type_of}
 use Rattle.frames.specs.FrameAssignable.{width_of}

@@ -4,8 +4,8 @@ use Rattle.names.specs.Descriptors.{FieldDescriptor, primitive, class as class_d
 use Rattle.classfile.specs.Methods.{Method}
 use Rattle.insn.specs.declared.stack.StackPlace.{StackPlace}
 use Rattle.insn.specs.declared.stack.StackPlace.TheVariants.{Narrow, Wide}
-use Rattle.insn.specs.Acts.{StackForm}
-use Rattle.insn.specs.Stacks.{beneath, rearranged}
+use Rattle.insn.specs.Operators.{StackForm}
+use Rattle.insn.specs.OperandStacks.{beneath, rearranged}
 use Rattle.insn.specs.Meanings.{Act}
 use Rattle.frames.specs.VerificationType.{VerificationType, top, int, float, long, double, null, class, array, uninit_this, uninit}
 use Rattle.frames.specs.FrameFact.{FrameFact}

@@ -6,7 +6,8 @@ use Rattle.hierarchy.specs.Answer.{Outcome}
 use Rattle.names.specs.Descriptors.{FieldDescriptor, primitive}
 use Rattle.insn.specs.declared.operation.Kind.{Kind}
 use Rattle.insn.specs.Meanings.{Act}
-use Rattle.insn.specs.Stacks.{beneath, computed_as}
+use Rattle.insn.specs.Kinds.{computed_as}
+use Rattle.insn.specs.OperandStacks.{beneath}
 use Rattle.frames.specs.VerificationType.{VerificationType}
 use Rattle.frames.specs.FrameFact.{FrameFact}
 use Rattle.frames.specs.Conditions.{Conditions, reason, least, missing_if}

@@ -10,7 +10,7 @@ use Rattle.hierarchy.specs.declared.summary.Kind.TheVariants as kinds
 use Rattle.hierarchy.specs.Class.{ClassFact}
 use Rattle.hierarchy.specs.Answer.{Outcome, no}
 use Rattle.hierarchy.specs.Nearest.{MemberReference, is_guarded}
-use Rattle.insn.specs.Stacks.{beneath}
+use Rattle.insn.specs.OperandStacks.{beneath}
 use Rattle.insn.specs.Meanings as acts
 use Rattle.insn.specs.Meanings.{Act}
 use Rattle.frames.specs.VerificationType.{VerificationType, class, array}

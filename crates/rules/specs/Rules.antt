@@ -6,8 +6,8 @@ use Rattle.classfile.specs.Methods.{Method, is_name}
 use Rattle.hierarchy.specs.Class.{ClassFact}
 use Rattle.hierarchy.specs.Answer.{Outcome, yes, yes_if}
 use Rattle.insn.specs.declared.operation.Kind.TheVariants as kinds
-use Rattle.insn.specs.Acts.{takes_array}
-use Rattle.insn.specs.Stacks.{beneath, units_taken}
+use Rattle.insn.specs.Operators.{takes_array}
+use Rattle.insn.specs.OperandStacks.{beneath, units_taken}
 use Rattle.insn.specs.Meanings.{Act}
 use Rattle.frames.specs.VerificationType.{VerificationType, top, int, float, long, double, null, class, array, uninit_this, uninit}
 use Rattle.frames.specs.FrameFact.{FrameFact}

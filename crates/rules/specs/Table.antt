@@ -7,8 +7,8 @@ use Rattle.pool.specs.ConstantMeanings.{constant_at, class_at, field_at, method_
 use Rattle.classfile.specs.Methods.{Method}
 use Rattle.insn.specs.declared.operation.Kind.{Kind}
 use Rattle.insn.specs.declared.operation.Kind.TheVariants as kinds
-use Rattle.insn.specs.Acts.{kind_units, numeric_row, stack_forms}
-use Rattle.insn.specs.Stacks.{computed_as, same_kind}
+use Rattle.insn.specs.Kinds.{kind_units, computed_as, same_kind}
+use Rattle.insn.specs.Operators.{numeric_row, stack_forms}
 use Rattle.insn.specs.Offsets.{at_offset}
 use Rattle.insn.specs.Meanings as acts
 use Rattle.insn.specs.Meanings.{Act}

@@ -6,8 +6,8 @@ use Rattle.names.specs.Descriptors.{FieldDescriptor, MethodDescriptor, primitive
 use Rattle.names.specs.ReferenceTypes.{ReferenceType, class_type, array_type}
 use Rattle.insn.specs.declared.operation.Kind.{Kind}
 use Rattle.insn.specs.declared.operation.Kind.TheVariants as kinds
-use Rattle.insn.specs.Acts.{StackForm}
-use Rattle.insn.specs.Stacks.{computed_as}
+use Rattle.insn.specs.Operators.{StackForm}
+use Rattle.insn.specs.Kinds.{computed_as}
 use Rattle.insn.specs.Offsets.{led_to}
 use Rattle.frames.specs.VerificationType.{VerificationType}
 use Rattle.frames.specs.Slots.{descriptor_type}

@@ -3,7 +3,7 @@
 use Rattle.std.specs.Prelude.{◌≡◌, ◌⊎◌, ℕ, true, List, Some, None}
 use Rattle.classfile.specs.Methods.{Method}
 use Rattle.hierarchy.specs.Class.{ClassFact}
-use Rattle.insn.specs.Acts.{StackForm}
+use Rattle.insn.specs.Operators.{StackForm}
 use Rattle.insn.specs.Meanings.{Act}
 use Rattle.frames.specs.FrameFact.{FrameFact}
 use Rattle.frames.specs.Conditions.{reason, least}

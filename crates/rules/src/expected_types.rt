@@ -3,8 +3,8 @@ ghost use Rattle.std.specs.Prelude.{◌≡◌, [], ◌∷◌, map, option_map, o
 ghost use Rattle.names.specs.Types.{method_of};
 ghost use Rattle.names.specs.References.{reference_view};
 ghost use Rattle.pool.specs.ConstantViews.{field_constant_view, method_constant_view, call_site_view};
-ghost use Rattle.insn.specs.Acts.{numeric_row, stack_forms};
-ghost use Rattle.insn.specs.Stacks.{units_taken};
+ghost use Rattle.insn.specs.Operators.{numeric_row, stack_forms};
+ghost use Rattle.insn.specs.OperandStacks.{units_taken};
 ghost use Rattle.insn.specs.declared.operation.Kind.TheVariants.{Int};
 ghost use Rattle.rules.specs.TypingRules.{arguments_on, number, numbers};
 ghost use Rattle.rules.specs.Table.{return_number, return_reference};

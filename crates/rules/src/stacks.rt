@@ -1,6 +1,6 @@
 //! How many units an instruction takes that moves items of the stack.
 ghost use Rattle.std.specs.Prelude.{◌≡◌, ◌≤◌, map};
-ghost use Rattle.insn.specs.Stacks.{units_of_places, units_taken};
+ghost use Rattle.insn.specs.OperandStacks.{units_of_places, units_taken};
 ghost use Rattle.insn.specs.Views.{stack_form_view};
 
 use insn::{StackForm, StackPlace};

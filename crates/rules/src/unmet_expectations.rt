@@ -2,7 +2,7 @@
 //! whose comparison asks for a class that is missing.
 ghost use Rattle.std.specs.Prelude.{◌≡◌, ◌≤◌, ◌-◌, map, option_map};
 ghost use Rattle.frames.specs.Slots.{units_of};
-ghost use Rattle.insn.specs.Stacks.{beneath};
+ghost use Rattle.insn.specs.OperandStacks.{beneath};
 ghost use Rattle.frames.specs.FrameFact.{frame_of};
 ghost use Rattle.frames.specs.VerificationType.{type_of};
 ghost use Rattle.rules.specs.After.{local_of};

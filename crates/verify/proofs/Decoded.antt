@@ -3,8 +3,8 @@ use Rattle.std.proofs.Common.{◌≡◌, ℕ, ◌+◌, ◌<◌, List, [], ◌∷
 use Rattle.insn.specs.Instructions.{Instruction}
 use Rattle.insn.specs.Meanings.{act}
 use Rattle.insn.specs.Code.{SpellsCode}
-use Rattle.insn.specs.Readings.{or_none, instructions_in}
-use Rattle.insn.proofs.Readings.{only_reading}
+use Rattle.insn.specs.CodeResults.{or_none, instructions_in}
+use Rattle.insn.proofs.CodeResults.{only_result}
 use Rattle.insn.specs.Offsets.{IsStart, acts, StartsRise}
 
 pub decoded_rise : (from : ℕ) (xs : List (ℕ × Instruction)) → StartsRise from xs → StartsRise from (acts xs)
@@ -18,4 +18,4 @@ decoded_begins bytes (x ∷ xs) s lt = record { what = act x.1; here = rw (eq-eq
 
 -- the instructions that are read from code without a fault spell it
 pub read_spelled : (code : List ℕ) (xs : List (ℕ × Instruction)) → SpellsCode 0 code xs → SpellsCode 0 code (instructions_in code)
-read_spelled code xs s = subst (SpellsCode 0 code) (sym (ap or_none (only_reading code (Ok xs) s))) s
+read_spelled code xs s = subst (SpellsCode 0 code) (sym (ap or_none (only_result code (Ok xs) s))) s

@@ -9,7 +9,7 @@ use Rattle.frames.specs.FrameFact.{FrameFact}
 use Rattle.frames.specs.Slots.{is_wide}
 use Rattle.rules.specs.TypingRules.{TypingRule, pops, loads, stores, counts, rearranges, loads_element, makes, constructs, calls_special, returns, refuses}
 use Rattle.rules.specs.After.{top_of, top_first, stored_type, forgotten, class_after, initialized, after}
-use Rattle.insn.specs.Stacks.{beneath}
+use Rattle.insn.specs.OperandStacks.{beneath}
 use Rattle.verify.specs.InitialFrames.{initial_types}
 use Rattle.verify.specs.TypeSafety.{Frames, Declares}
 use Rattle.verify.specs.Verdict.{frames_declared}

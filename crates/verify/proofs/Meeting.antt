@@ -9,7 +9,7 @@ use Rattle.hierarchy.specs.Class.{ClassFact}
 use Rattle.insn.specs.Instructions.{Instruction}
 use Rattle.insn.specs.Meanings.{Act}
 use Rattle.insn.specs.Offsets.{at_offset, acts, IsStart, StartsRise}
-use Rattle.insn.proofs.Readings.{reading_at}
+use Rattle.insn.proofs.CodeResults.{reading_at}
 use Rattle.frames.specs.declared.frame.Frame.{Frame}
 use Rattle.frames.specs.FrameFact.{FrameFact, frame_of}
 use Rattle.frames.specs.Slots.{in_locals}

@@ -10,10 +10,10 @@ use Rattle.insn.specs.declared.operation.Act as program
 use Rattle.insn.specs.Code.{StepsBy}
 use Rattle.insn.specs.Meanings.{Act}
 use Rattle.insn.specs.Offsets.{at_offset, first_offset, acts, by_act}
-use Rattle.insn.specs.Readings.{Reading, behind}
+use Rattle.insn.specs.CodeResults.{Reading, behind}
 use Rattle.insn.specs.Views.{act_located}
 use Rattle.insn.proofs.CodeLaws.{has_bytes, told_step}
-use Rattle.insn.proofs.Readings.{reading_at, step_reads, end_reads, some_left}
+use Rattle.insn.proofs.CodeResults.{reading_at, step_reads, end_reads, some_left}
 use Rattle.frames.specs.FrameFact.{FrameFact}
 use Rattle.frames.specs.Conditions.{Reason, Conditions, least}
 use Rattle.rules.specs.TypingRules.{falls}

@@ -9,7 +9,7 @@ use Rattle.hierarchy.specs.World.{World}
 use Rattle.hierarchy.specs.Class.{ClassFact}
 use Rattle.hierarchy.specs.Rules.{IsHierarchy}
 use Rattle.hierarchy.specs.Extends.{Extends}
-use Rattle.insn.specs.Stacks.{computed_as}
+use Rattle.insn.specs.Kinds.{computed_as}
 use Rattle.frames.specs.Slots.{to_reference}
 use Rattle.frames.specs.Meaning.{IsAssignable}
 use Rattle.machine.specs.Values.{Value, number, null, reference}

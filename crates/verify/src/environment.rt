@@ -8,7 +8,7 @@ ghost use Rattle.classfile.specs.Values.{CodeBody};
 ghost use Rattle.classfile.specs.Views.{class_view};
 ghost use Rattle.insn.specs.Code.{SpellsCode};
 ghost use Rattle.insn.specs.Offsets.{acts};
-ghost use Rattle.insn.specs.Readings.{reading_of};
+ghost use Rattle.insn.specs.CodeResults.{code_result};
 ghost use Rattle.insn.specs.Views.{views};
 ghost use Rattle.rules.specs.Bodies.{method_view};
 
@@ -26,7 +26,7 @@ pub struct Env<'e, 'c, 'a, C: Classes> {
     pub list: &'e [(u16, Insn<'a>)],
     /// The classes.
     pub classes: &'e C,
-    ghost read: { reading_of method.code.now.code.now ≡ Ok (views list.now) },
+    ghost read: { code_result method.code.now.code.now ≡ Ok (views list.now) },
     ghost few: { length method.code.now.code.now ≤ MAX_CODE_BYTES },
 }
 

@@ -10,7 +10,7 @@ use Rattle.insn.specs.declared.stack.StackForm as stacks
 use Rattle.insn.specs.declared.stack.StackOperator.{StackOperator}
 use Rattle.insn.specs.declared.table.Form.{Form}
 use Rattle.insn.specs.declared.table.Form.TheVariants as forms
-use Rattle.insn.specs.Acts.{NumericRow, StackForm}
+use Rattle.insn.specs.Operators.{NumericRow, StackForm}
 use Rattle.insn.specs.Instructions.{nothing}
 use Rattle.insn.specs.Meanings as means
 use Rattle.insn.specs.Meanings.{act}

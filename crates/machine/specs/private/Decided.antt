@@ -9,7 +9,7 @@ use Rattle.hierarchy.specs.Class.{ClassFact, interface_of}
 use Rattle.hierarchy.specs.Answer.{Outcome, yes, no, missing, subclass_answer}
 use Rattle.insn.specs.declared.stack.StackPlace.{StackPlace}
 use Rattle.insn.specs.declared.stack.StackPlace.TheVariants.{Narrow, Wide}
-use Rattle.insn.specs.Acts.{StackForm}
+use Rattle.insn.specs.Operators.{StackForm}
 use Rattle.machine.specs.Heap.{Status, ready, made, this, Object}
 use Rattle.machine.specs.Values.{Value, Slot, empty, second, holds, is_wide_slot, place_of}
 

@@ -4,7 +4,8 @@ use Rattle.std.specs.Prelude.{ℕ, List, [], ◌∷◌, map}
 use Rattle.names.specs.Types.{type_of}
 use Rattle.names.specs.ReferenceTypes.{class_type}
 use Rattle.names.specs.StandardNames.{throwable_name}
-use Rattle.insn.specs.Acts.{stack_forms, kind_units}
+use Rattle.insn.specs.Kinds.{kind_units}
+use Rattle.insn.specs.Operators.{stack_forms}
 use Rattle.insn.specs.Branching.{branches_view}
 use Rattle.machine.specs.declared.effect.Demand.{Demand as RawDemand}
 use Rattle.machine.specs.declared.effect.Demand.TheVariants as raw

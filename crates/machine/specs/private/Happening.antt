@@ -5,8 +5,8 @@ use Rattle.names.specs.ReferenceTypes.{ReferenceType}
 use Rattle.hierarchy.specs.World.{World}
 use Rattle.classfile.specs.Methods.{Method, ExceptionEntry, covers}
 use Rattle.insn.specs.Meanings.{Act}
-use Rattle.insn.specs.Acts.{StackForm}
-use Rattle.insn.specs.Stacks.{beneath, rearranged}
+use Rattle.insn.specs.Operators.{StackForm}
+use Rattle.insn.specs.OperandStacks.{beneath, rearranged}
 use Rattle.insn.specs.Offsets.{IsAmong}
 use Rattle.machine.specs.declared.choosing.Outcome.{Outcome as RawOutcome}
 use Rattle.machine.specs.declared.choosing.Outcome.TheVariants as outcomes

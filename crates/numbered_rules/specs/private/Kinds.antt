@@ -2,7 +2,7 @@
 use Rattle.std.specs.Prelude.{ℕ, Bool, true, false, not, ◌&&◌, ◌||◌, nat_eq, nat_lt}
 use Rattle.names.specs.declared.base.Primitive.{Primitive}
 use Rattle.names.specs.Descriptors.{primitive}
-use Rattle.insn.specs.Acts.{takes_array}
+use Rattle.insn.specs.Operators.{takes_array}
 use Rattle.frames.specs.VerificationType.{VerificationType, array}
 use Rattle.type_numbers.specs.Decoding.{element_at}
 

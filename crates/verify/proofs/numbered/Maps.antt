@@ -3,7 +3,7 @@ use Rattle.std.proofs.Common.{◌≡◌, ◌∙◌, false, ◌||◌, List, [], �
 use Rattle.names.specs.Descriptors.{FieldDescriptor, primitive, class, array}
 use Rattle.classfile.specs.Methods.{Method, Receiver, no_receiver, ready_receiver, own_receiver, receiver_of}
 use Rattle.insn.specs.Meanings.{Act}
-use Rattle.insn.specs.Stacks.{computed_as}
+use Rattle.insn.specs.Kinds.{computed_as}
 use Rattle.insn.specs.declared.operation.Kind.{Kind}
 use Rattle.insn.specs.declared.operation.Kind.TheVariants.{Int, Long, Float, Double}
 use Rattle.frames.specs.FrameFact.{FrameFact}

@@ -10,8 +10,8 @@ use Rattle.classfile.specs.Bootstraps.{has_bootstrap}
 use Rattle.classfile.specs.Methods.{Method, is_own_field}
 use Rattle.insn.specs.declared.operation.Kind.{Kind}
 use Rattle.insn.specs.declared.operation.Kind.TheVariants as kinds
-use Rattle.insn.specs.Acts.{numeric_row, kind_units}
-use Rattle.insn.specs.Stacks.{computed_as, same_kind}
+use Rattle.insn.specs.Kinds.{kind_units, computed_as, same_kind}
+use Rattle.insn.specs.Operators.{numeric_row}
 use Rattle.insn.specs.Meanings as acts
 use Rattle.insn.specs.Meanings.{Act}
 use Rattle.frames.specs.VerificationType.{VerificationType, null, array}

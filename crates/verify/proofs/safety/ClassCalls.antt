@@ -9,7 +9,7 @@ use Rattle.classfile.specs.Methods.{Method}
 use Rattle.hierarchy.specs.World.{World}
 use Rattle.insn.specs.Meanings as acts
 use Rattle.insn.specs.Meanings.{Act}
-use Rattle.insn.specs.Stacks.{beneath}
+use Rattle.insn.specs.OperandStacks.{beneath}
 use Rattle.machine.specs.Values.{Value}
 use Rattle.machine.specs.Heap.{Heap, FitsField, AllFit}
 use Rattle.machine.specs.Effects as effects

@@ -12,7 +12,8 @@ use Rattle.insn.specs.declared.operation.Kind.{Kind}
 use Rattle.insn.specs.declared.operation.Kind.TheVariants as kinds
 use Rattle.insn.specs.Meanings as acts
 use Rattle.insn.specs.Meanings.{Act}
-use Rattle.insn.specs.Stacks.{computed_as, same_kind, beneath}
+use Rattle.insn.specs.Kinds.{computed_as, same_kind}
+use Rattle.insn.specs.OperandStacks.{beneath}
 use Rattle.insn.specs.Offsets.{at_offset, next_offset}
 use Rattle.machine.specs.Values.{Value, number, null, reference}
 use Rattle.machine.specs.Heap.{Status, ready, made, this, object, Heap, with_object, FitsReference, FitsField, IsReady}

@@ -9,7 +9,7 @@ use Rattle.insn.specs.Meanings as acts
 use Rattle.insn.specs.Meanings.{Act}
 use Rattle.insn.specs.Offsets.{next_offset}
 use Rattle.insn.specs.declared.operation.Kind.{Kind}
-use Rattle.insn.specs.Stacks.{computed_as, same_kind}
+use Rattle.insn.specs.Kinds.{computed_as, same_kind}
 use Rattle.machine.specs.Values.{Value, number, null, reference, all_slots}
 use Rattle.machine.specs.Heap.{Status, ready, this, Object, object, Heap, with_object, with_fresh}
 use Rattle.machine.specs.Effects.{Effect, of_kind, where_allowed, leaves, return_number, return_reference, return_nothing, effect}

@@ -6,7 +6,7 @@ use Rattle.names.specs.ReferenceTypes.{ReferenceType, class_type, array_type, de
 use Rattle.classfile.specs.Methods.{is_name}
 use Rattle.hierarchy.specs.World.{World, IsSubclassIn, same}
 use Rattle.hierarchy.specs.Class.{ClassFact}
-use Rattle.insn.specs.Stacks.{beneath}
+use Rattle.insn.specs.OperandStacks.{beneath}
 use Rattle.frames.specs.VerificationType.{VerificationType, top, int, float, long, double, null as null_type, class, array, uninit_this, uninit}
 use Rattle.frames.specs.FrameFact.{FrameFact}
 use Rattle.frames.specs.Slots.{to_reference, is_wide}

@@ -9,7 +9,8 @@ use Rattle.hierarchy.specs.Class.{ClassFact}
 use Rattle.hierarchy.specs.Answer.{Outcome, yes, no, missing}
 use Rattle.insn.specs.declared.operation.Kind.{Kind}
 use Rattle.insn.specs.declared.operation.Kind.TheVariants as kinds
-use Rattle.insn.specs.Stacks.{computed_as, beneath}
+use Rattle.insn.specs.Kinds.{computed_as, kind_units}
+use Rattle.insn.specs.OperandStacks.{beneath}
 use Rattle.insn.specs.Meanings.{Act}
 use Rattle.frames.specs.VerificationType.{VerificationType, top, int, float, long, double, null as null_type, class, array, uninit_this, uninit}
 use Rattle.frames.specs.FrameFact.{FrameFact}
@@ -20,7 +21,6 @@ use Rattle.rules.specs.TypingRules as rules
 use Rattle.rules.specs.TypingRules.{ExpectedType, TypingRule}
 use Rattle.rules.specs.After.{popped, after}
 use Rattle.rules.specs.Rules.{is_reference, is_array, is_array_for, own_or_answer, accepts, is_short, operands, operand_conditions, family, is_missing_class, gives_frame, conditions}
-use Rattle.insn.specs.Acts.{kind_units}
 use Rattle.machine.specs.Values.{Value, number, null, reference, is_wide_value, depth_of, field_units}
 use Rattle.machine.specs.Heap.{Heap, IsBelow, FitsReference, FitsField, AllFit, IsReference, IsArray, FitsArray, IsArrayFor, FitsArrayFor, IsThis}
 use Rattle.machine.specs.Effects as effects

@@ -2,7 +2,7 @@
 ghost use Rattle.std.specs.Prelude.{◌≡◌, ◌&&◌, false, ℕ, List, [], drop, is_some, option_map, IfOk, IfSome};
 ghost use Rattle.classfile.specs.Methods.{ExceptionEntry};
 ghost use Rattle.hierarchy.specs.Answer.{outcome_of};
-ghost use Rattle.insn.specs.Stacks.{beneath};
+ghost use Rattle.insn.specs.OperandStacks.{beneath};
 ghost use Rattle.insn.specs.Views.{act_view};
 ghost use Rattle.frames.specs.DeclaredFrames.{is_uninit_this};
 ghost use Rattle.frames.specs.VerificationType.{VerificationType, class as class_of, type_of};

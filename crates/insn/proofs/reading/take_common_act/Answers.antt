@@ -1,4 +1,4 @@
-use Rattle.insn.proofs.Plain.{alone_taken, act_taken}
+use Rattle.insn.proofs.Taken.{alone_taken, act_taken}
 use Rattle.insn.proofs.reading.take_common_act.Goals as goal
 
 pub returns-in-Some : goal.returns-in-Some

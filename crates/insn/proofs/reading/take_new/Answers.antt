@@ -1,5 +1,5 @@
 use Rattle.std.proofs.Common.{◌∙◌}
-use Rattle.insn.proofs.Plain.{new_taken}
+use Rattle.insn.proofs.Taken.{new_taken}
 use Rattle.insn.proofs.reading.take_new.Goals as goal
 
 pub returns : goal.returns

@@ -1,6 +1,6 @@
 use Rattle.std.proofs.Common.{subst, inl, inr}
 use Rattle.std.specs.Prelude.{option_map}
-use Rattle.insn.specs.Stacks.{beneath}
+use Rattle.insn.specs.OperandStacks.{beneath}
 use Rattle.machine.specs.Heap.{object, ready}
 use Rattle.machine.specs.Steps.{moved}
 use Rattle.machine.specs.private.EffectViews.{demands_view}

@@ -1,5 +1,5 @@
 use Rattle.std.proofs.Common.{◌≡◌, ◌∷◌, sym, ◌∙◌, ap}
-use Rattle.insn.specs.Stacks.{beneath}
+use Rattle.insn.specs.OperandStacks.{beneath}
 use Rattle.machine.specs.Values.{reference}
 use Rattle.machine.specs.private.EffectViews.{demands_view}
 use Rattle.machine.specs.Views.{value_view, stack_of, state_view}

@@ -1,6 +1,6 @@
 use Rattle.std.proofs.Common.{◌≡◌, sym, ◌∙◌, ap, Some}
-use Rattle.insn.specs.Acts.{stack_forms}
-use Rattle.insn.specs.Stacks.{rearranged}
+use Rattle.insn.specs.Operators.{stack_forms}
+use Rattle.insn.specs.OperandStacks.{rearranged}
 use Rattle.insn.specs.Views.{stack_form_view}
 use Rattle.machine.specs.Steps.{moved}
 use Rattle.machine.specs.private.Decided.{form_for}

@@ -1,6 +1,6 @@
 use Rattle.std.proofs.Common.{◌≡◌, sym, ◌∙◌, ap}
 use Rattle.std.specs.Option.{is_some}
-use Rattle.insn.specs.Acts.{stack_forms}
+use Rattle.insn.specs.Operators.{stack_forms}
 use Rattle.machine.specs.private.Decided.{form_for}
 use Rattle.machine.specs.Views.{stack_of, state_view}
 use Rattle.machine.proofs.Forms.{form_tested, form_test, same_some}

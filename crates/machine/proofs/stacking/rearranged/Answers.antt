@@ -1,5 +1,5 @@
 use Rattle.std.proofs.Common.{◌++◌, sym, ◌∙◌, ap}
-use Rattle.insn.specs.Stacks.{chosen}
+use Rattle.insn.specs.OperandStacks.{chosen}
 use Rattle.machine.specs.Views.{stack_of}
 use Rattle.machine.proofs.Moves.{beneath_drop}
 use Rattle.machine.proofs.stacking.rearranged.Goals as goal

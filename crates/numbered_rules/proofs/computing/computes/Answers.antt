@@ -1,5 +1,5 @@
 use Rattle.std.proofs.Common.{◌≡◌, ◌∙◌, true, [], ◌∷◌, ap, sym}
-use Rattle.insn.specs.Acts.{numeric_row}
+use Rattle.insn.specs.Operators.{numeric_row}
 use Rattle.frames.specs.Slots.{number_type}
 use Rattle.type_numbers.specs.Decoding.{type_by}
 use Rattle.type_numbers.proofs.Decoded.{number_read}

@@ -1,8 +1,8 @@
 use Rattle.std.proofs.Common.{◌≡◌, ◌≤◌, ◌<◌, ◌∙◌, Some, sym, ap, subst, inr, map, length, arith, refl, option_map}
 use Rattle.std.proofs.lemmas.List.{length-map}
 use Rattle.hierarchy.specs.Answer.{yes}
-use Rattle.insn.specs.Acts.{stack_forms}
-use Rattle.insn.specs.Stacks.{rearranged, units_taken}
+use Rattle.insn.specs.Operators.{stack_forms}
+use Rattle.insn.specs.OperandStacks.{rearranged, units_taken}
 use Rattle.insn.specs.Views.{stack_form_view}
 use Rattle.frames.specs.Slots.{units_of}
 use Rattle.type_numbers.specs.Decoding.{type_by}

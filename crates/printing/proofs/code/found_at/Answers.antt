@@ -2,7 +2,7 @@ use Rattle.std.proofs.Common.{ℕ, ◌∙◌, refl, sym, ap}
 use Rattle.insn.specs.declared.instruction.Insn.{Insn}
 use Rattle.insn.specs.Offsets.{at_offset}
 use Rattle.insn.specs.Views.{located}
-use Rattle.insn.proofs.Readings.{reading_at, whole_reading}
+use Rattle.insn.proofs.CodeResults.{reading_at, whole_reading}
 use Rattle.printing.proofs.Steps.{step_is, fault_here, end_is, left_behind, no_list, nothing_left, here_found, here_passed}
 use Rattle.printing.proofs.code.found_at.Goals as goal
 

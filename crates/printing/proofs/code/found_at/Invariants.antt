@@ -2,11 +2,11 @@
 use Rattle.std.proofs.Common.{◌≡◌, ℕ, List, Ok}
 use Rattle.insn.specs.Instructions.{Instruction}
 use Rattle.insn.specs.Offsets.{at_offset}
-use Rattle.insn.specs.Readings.{reading_of}
-use Rattle.insn.proofs.Readings.{reading_at}
+use Rattle.insn.specs.CodeResults.{code_result}
+use Rattle.insn.proofs.CodeResults.{reading_at}
 use Rattle.printing.proofs.code.found_at.Given as goal
 
 abbrev pub invariant-loop-step : goal.invariant-loop-step
 invariant-loop-step l =
-    (xs : List (ℕ × Instruction)) → reading_of l.code ≡ Ok xs
+    (xs : List (ℕ × Instruction)) → code_result l.code ≡ Ok xs
     → (left : List (ℕ × Instruction)) × (reading_at l.step-iterator ≡ Ok left) × (at_offset xs l.at ≡ at_offset left l.at)

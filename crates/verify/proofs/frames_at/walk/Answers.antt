@@ -6,9 +6,9 @@ use Rattle.insn.specs.declared.operation.Act as program
 use Rattle.insn.specs.Code.{StepsBy}
 use Rattle.insn.specs.Meanings.{Act}
 use Rattle.insn.specs.Offsets.{at_offset, acts, by_act}
-use Rattle.insn.specs.Readings.{or_none, instructions_in}
+use Rattle.insn.specs.CodeResults.{or_none, instructions_in}
 use Rattle.insn.specs.Views.{act_located}
-use Rattle.insn.proofs.Readings.{reading_at, whole_reading, only_reading, has_instruction}
+use Rattle.insn.proofs.CodeResults.{reading_at, whole_reading, only_result, has_instruction}
 use Rattle.frames.specs.FrameFact.{FrameFact}
 use Rattle.method_frames.specs.NumberedFrames.{NumberedFrames}
 use Rattle.method_frames.specs.MapFrames.{frames_by}
@@ -59,7 +59,7 @@ module _ {m : Method Act} {n at size : ℕ} {coming : Option FrameFact} {total :
 pub loop-code-init : goal.loop-code-init
 loop-code-init g c =
     let code = c.args.body.now.method.now.code.now.code.now in
-    let only = only_reading code (Ok c.requires.spelled.0) c.requires.spelled.1 in
+    let only = only_result code (Ok c.requires.spelled.0) c.requires.spelled.1 in
     let all = ap (λ (p : Place). p.at + length p.rest) c.new-code.ensures in
     record {
       walks = record {

@@ -1,7 +1,7 @@
 use Rattle.std.proofs.Common.{◌≡◌, ◌∙◌, List, Option, Some, ℕ, map, option_map, sym, ap, subst}
 use Rattle.classfile.specs.Methods.{code_of}
 use Rattle.classfile.specs.Views.{attribute_view, code_view}
-use Rattle.insn.specs.Readings.{reading_of}
+use Rattle.insn.specs.CodeResults.{code_result}
 use Rattle.printing.specs.Classes.{size_fields, instruction_fields, named_fields_at}
 use Rattle.printing.specs.Json.{fields_then, fields_behind}
 use Rattle.printing.specs.Writing.{Writes}
@@ -17,8 +17,8 @@ returns-in-Some g c =
     let x = frames_view self.frames.now in
     let body = code_view c.in-Some.body.now in
     let text : Option ℕ → List ℕ = λ (place : Option ℕ).
-    fields_then (size_fields body) (fields_then (instruction_fields (reading_of body.code) self.at)
-    (fields_then (named_fields_at self.pool.now (reading_of body.code) self.at)
+    fields_then (size_fields body) (fields_then (instruction_fields (code_result body.code) self.at)
+    (fields_then (named_fields_at self.pool.now (code_result body.code) self.at)
     (frame_fields_for x (fields_then (detail_fields_of x.detail) (fields_behind (entry_fields self.pool.now body place)))))) in
     let there : Some body ≡ code_of (map attribute_view self.member.now.attributes.items) =
     sym (ap (option_map (λ b. code_view b.now)) c.in-Some.is) ∙ c.code.ensures in

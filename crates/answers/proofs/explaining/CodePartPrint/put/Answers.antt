@@ -1,7 +1,7 @@
 use Rattle.std.proofs.Common.{◌≡◌, ◌∙◌, ◌++◌, List, ℕ, Some, map, option_map, sym, ap, subst}
 use Rattle.classfile.specs.Methods.{code_of}
 use Rattle.classfile.specs.Views.{attribute_view, code_view}
-use Rattle.insn.specs.Readings.{reading_of}
+use Rattle.insn.specs.CodeResults.{code_result}
 use Rattle.frames.specs.declared.difference.Sought.{Sought}
 use Rattle.rules.specs.Reasons.{reason_number}
 use Rattle.printing.specs.Classes.{sizes_line, line_at, named_at}
@@ -19,7 +19,7 @@ returns-in-Some g c =
     let x = frames_view self.frames.now in
     let body = code_view c.in-Some.body.now in
     let text : Sought → List ℕ = λ (sought : Sought).
-    sizes_line body ++ (line_at (reading_of body.code) self.at ++ (named_at pool (reading_of body.code) self.at
+    sizes_line body ++ (line_at (code_result body.code) self.at ++ (named_at pool (code_result body.code) self.at
     ++ (frames_for x ++ (detail_line_of sought x.detail ++ entry_lines pool body x)))) in
     let there : Some body ≡ code_of (map attribute_view self.member.now.attributes.items) =
     sym (ap (option_map (λ b. code_view b.now)) c.in-Some.is) ∙ c.code.ensures in

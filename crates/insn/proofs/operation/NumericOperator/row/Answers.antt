@@ -1,6 +1,6 @@
 use Rattle.std.proofs.Common.{ap, arith}
 use Rattle.std.proofs.lemmas.Option.{slice_get_within}
-use Rattle.insn.specs.Acts.{NumericRow, numeric_row, numeric_operators}
+use Rattle.insn.specs.Operators.{NumericRow, numeric_row, numeric_operators}
 use Rattle.insn.specs.private.Table.{numeric_table_row}
 use Rattle.insn.proofs.Rows.{row_there, row_within}
 use Rattle.insn.proofs.operation.NumericOperator.row.Goals as goal

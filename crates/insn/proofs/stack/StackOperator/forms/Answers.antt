@@ -1,4 +1,4 @@
-use Rattle.insn.specs.Acts.{stack_forms, stack_operators}
+use Rattle.insn.specs.Operators.{stack_forms, stack_operators}
 use Rattle.insn.specs.private.Table.{stack_table_row}
 use Rattle.insn.proofs.Rows.{row_there}
 use Rattle.insn.proofs.stack.StackOperator.forms.Goals as goal

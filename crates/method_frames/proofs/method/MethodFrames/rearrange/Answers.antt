@@ -1,5 +1,5 @@
 use Rattle.std.proofs.Common.{refl}
-use Rattle.insn.specs.Stacks.{rearranged}
+use Rattle.insn.specs.OperandStacks.{rearranged}
 use Rattle.insn.specs.Views.{stack_form_view}
 use Rattle.method_frames.proofs.MethodParts.{rows_stay, stacks_moved, grown}
 use Rattle.method_frames.proofs.method.MethodFrames.rearrange.Goals as goal

@@ -1,7 +1,7 @@
 use Rattle.std.proofs.Common.{◌≡◌, ◌∙◌, ℕ, List, [], Option, Some, None, option_map, refl, sym, ap, subst}
 use Rattle.std.specs.Option.{option_map_or}
 use Rattle.insn.specs.Instructions.{Instruction}
-use Rattle.insn.specs.Readings.{reading_of}
+use Rattle.insn.specs.CodeResults.{code_result}
 use Rattle.insn.specs.Views.{view}
 use Rattle.printing.specs.Classes.{named_at}
 use Rattle.printing.specs.Constants.{named_line}
@@ -17,15 +17,15 @@ pub returns-in-Some : goal.returns-in-Some
 returns-in-Some g c =
     let held = g.W.Write.contents in
     let self = c.args.self.now in
-    let fault = is_fault (reading_of self.code.now) c.in-Some.field-0 (sym c.code_fault.ensures ∙ c.in-Some.is) in
+    let fault = is_fault (code_result self.code.now) c.in-Some.field-0 (sym c.code_fault.ensures ∙ c.in-Some.is) in
     subst (λ r. Writes (held c.args.out.now) (held c.put.new.out) (named_at self.pool.now r self.at) c.put.result) (sym fault) c.put.ensures
 
 pub returns-in-None : goal.returns-in-None
 returns-in-None g c =
     let held = g.W.Write.contents in
     let self = c.args.self.now in
-    let (xs, is) = is_list (reading_of self.code.now) (sym c.code_fault.ensures ∙ c.in-None.is) in
+    let (xs, is) = is_list (code_result self.code.now) (sym c.code_fault.ensures ∙ c.in-None.is) in
     let line : Instruction → List ℕ = named_line self.pool.now in
-    let text : option_map_or (λ i. line (view i)) c.found_at.result [] ≡ named_at self.pool.now (reading_of self.code.now) self.at =
+    let text : option_map_or (λ i. line (view i)) c.found_at.result [] ≡ named_at self.pool.now (code_result self.code.now) self.at =
     mapped line view c.found_at.result [] ∙ ap (λ o. option_map_or line o []) (c.found_at.ensures xs is) ∙ ap (λ r. named_at self.pool.now r self.at) (sym is) in
     subst (λ t. Writes (held c.args.out.now) (held c.put_named.new.out) t c.put_named.result) text c.put_named.ensures

@@ -9,9 +9,9 @@ use Rattle.classfile.specs.Views.{class_view, code_view}
 use Rattle.classfile.proofs.MethodLaws.{method_says}
 use Rattle.insn.specs.Meanings.{Act}
 use Rattle.insn.specs.Offsets.{acts}
-use Rattle.insn.specs.Readings.{or_none, instructions_in}
+use Rattle.insn.specs.CodeResults.{or_none, instructions_in}
 use Rattle.insn.specs.Views.{views}
-use Rattle.insn.proofs.Readings.{only_reading}
+use Rattle.insn.proofs.CodeResults.{only_result}
 use Rattle.classfile.specs.WellFormed.{WellFormed}
 use Rattle.verify.proofs.MethodCode.{little_code}
 use Rattle.verify.proofs.environment.Env.new.Goals as goal
@@ -24,7 +24,7 @@ returns-clause-method g c =
     let at : IsAt c.args.formed.now c.args.number m = subst (λ o. IfSome o (λ k. IsAt c.args.formed.now c.args.number k)) c.unwrap-method.ensures c.method.ensures.here in
     let coded : code_at (class_view class) c.args.number ≡ Some (code_view m.code.now) =
     sym c.method.ensures.code ∙ ap (option_map (λ k. code_view k.code.now)) c.unwrap-method.ensures in
-    let read : instructions_in m.code.now.code.now ≡ xs = ap or_none (only_reading m.code.now.code.now (Ok xs) (c.requires.listed (code_view m.code.now) coded)) in
+    let read : instructions_in m.code.now.code.now ≡ xs = ap or_none (only_result m.code.now.code.now (Ok xs) (c.requires.listed (code_view m.code.now) coded)) in
     ap (λ k. method_of (record { file = class_view k; dynamic = c.args.formed.now.dynamic }) c.args.number (acts xs)) (sym at.class_is)
     ∙ ap (λ d. method_of (record { file = class_view m.class.now; dynamic = d }) c.args.number (acts xs)) (sym at.dynamic_is)
     ∙ ap (λ n. method_of (class_of m) n (acts xs)) (sym at.number_is)
@@ -44,7 +44,7 @@ invariant_of-result g c =
     let coded : code_at (class_view c.args.formed.now.class.now) c.args.number ≡ Some (code_view m.code.now) =
     sym c.method.ensures.code ∙ ap (option_map (λ k. code_view k.code.now)) c.unwrap-method.ensures in
     record {
-      read = only_reading m.code.now.code.now (Ok xs) (c.requires.listed (code_view m.code.now) coded);
+      read = only_result m.code.now.code.now (Ok xs) (c.requires.listed (code_view m.code.now) coded);
       few =
           little_code (class_view c.args.formed.now.class.now) (subst (λ k. WellFormed (class_view k)) c.class.ensures.same c.class.ensures.formed) c.args.number (code_view m.code.now) coded;
     }

@@ -1,6 +1,6 @@
 use Rattle.std.proofs.Common.{rules, ◌≡◌, ◌∙◌, drop, Ok, sym, ap, subst}
 use Rattle.hierarchy.specs.Answer.{outcome_of}
-use Rattle.insn.specs.Stacks.{beneath}
+use Rattle.insn.specs.OperandStacks.{beneath}
 use Rattle.insn.specs.Views.{act_view}
 use Rattle.frames.specs.VerificationType.{class}
 use Rattle.type_numbers.specs.Numbers.{Numbering, IsNumber}

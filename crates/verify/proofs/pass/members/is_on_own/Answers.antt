@@ -5,7 +5,7 @@ use Rattle.names.specs.Types.{type_of}
 use Rattle.frames.specs.VerificationType.{type_of as vtype_of}
 use Rattle.frames.specs.DeclaredFrames.{is_uninit_this}
 use Rattle.type_numbers.specs.Numbers.{IsNumber}
-use Rattle.insn.specs.Stacks.{beneath}
+use Rattle.insn.specs.OperandStacks.{beneath}
 use Rattle.rules.specs.After.{top_of}
 use Rattle.rules.specs.TypingRules.{arguments_on}
 use Rattle.rules.proofs.Made.{beneath_arguments}

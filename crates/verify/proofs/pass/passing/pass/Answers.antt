@@ -4,10 +4,10 @@ use Rattle.layout.specs.Place.{Place}
 use Rattle.insn.specs.declared.operation.Act as program
 use Rattle.insn.specs.Meanings.{Act}
 use Rattle.insn.specs.Offsets.{acts, at_offset, first_offset}
-use Rattle.insn.specs.Readings.{or_none, instructions_in}
+use Rattle.insn.specs.CodeResults.{or_none, instructions_in}
 use Rattle.classfile.specs.Methods.{Method}
 use Rattle.insn.specs.Views.{act_located, act_view}
-use Rattle.insn.proofs.Readings.{reading_at, whole_reading, only_reading, has_instruction}
+use Rattle.insn.proofs.CodeResults.{reading_at, whole_reading, only_result, has_instruction}
 use Rattle.method_frames.specs.MapFrames.{frames_by}
 use Rattle.method_frames.specs.NumberedFrames.{NumberedFrames}
 use Rattle.numbered_rules.specs.Held.{held, IsRunning}
@@ -37,7 +37,7 @@ loop-code-init g c =
     let m = method_view c.args.body.now.method.now in
     let frames = frames_by start.types start.declared in
     let code = c.args.body.now.method.now.code.now.code.now in
-    let only = only_reading code (Ok c.requires.spelled.0) c.requires.spelled.1 in
+    let only = only_result code (Ok c.requires.spelled.0) c.requires.spelled.1 in
     record {
       left = record {
         instructions = instructions_in code;

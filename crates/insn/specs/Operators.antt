@@ -1,6 +1,6 @@
--- Instructions by their meaning: what numeric instructions take and give, what the instructions for the stack move, and
--- which arrays element instructions take (JVMS 2.11, 6.5).
-use Rattle.std.specs.Prelude.{ℕ, Bool, true, false, if◌then◌else◌, List, [], ◌∷◌}
+-- Operators: what numeric instructions take and give, what the instructions for the stack move, and which arrays element
+-- instructions take (JVMS 2.11, 6.5).
+use Rattle.std.specs.Prelude.{ℕ, Bool, true, false, List, [], ◌∷◌}
 use Rattle.names.specs.declared.base.Primitive.{Primitive}
 use Rattle.names.specs.declared.base.Primitive.TheVariants as primitives
 use Rattle.insn.specs.declared.operation.Kind.{Kind}
@@ -11,17 +11,6 @@ use Rattle.insn.specs.declared.stack.StackPlace.{StackPlace}
 use Rattle.insn.specs.declared.stack.StackPlace.TheVariants.{Narrow, Wide}
 use Rattle.insn.specs.declared.stack.StackOperator.{StackOperator}
 use Rattle.insn.specs.declared.stack.StackOperator.TheVariants.{Pop, Pop2, Dup, DupX1, DupX2, Dup2, Dup2X1, Dup2X2, Swap}
-
--- a number of the kind takes two places: two locals, two units of the stack's depth (JVMS 2.6.1, 2.6.2)
-abbrev pub is_wide : Kind → Bool
-is_wide Int = false
-is_wide Float = false
-is_wide Long = true
-is_wide Double = true
-
--- how many locals, and units of the stack's depth, it takes
-abbrev pub kind_units : Kind → ℕ
-kind_units kind = if is_wide kind then 2 else 1
 
 -- ---- numeric instructions
 

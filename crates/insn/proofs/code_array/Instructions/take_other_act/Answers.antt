@@ -2,7 +2,7 @@ use Rattle.std.proofs.Common.{subst}
 use Rattle.layout.specs.Place.{Place}
 use Rattle.insn.specs.Code.{FaultyInstruction}
 use Rattle.insn.proofs.CodeLaws.{not_both}
-use Rattle.insn.proofs.code_array.Instructions.act_with_operands.Goals as goal
+use Rattle.insn.proofs.code_array.Instructions.take_other_act.Goals as goal
 
 pub unreachable-requires : goal.unreachable-requires
 unreachable-requires c =

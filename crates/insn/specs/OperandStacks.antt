@@ -1,26 +1,8 @@
 -- Operand stacks as lists with the top first, of values or of types (JVMS 2.6.2, 2.11.1).
-use Rattle.std.specs.Prelude.{ℕ, ◌+◌, Bool, true, false, List, [], ◌∷◌, ◌++◌, slice_get, Option, Some, None}
-use Rattle.names.specs.declared.base.Primitive.{Primitive}
-use Rattle.names.specs.declared.base.Primitive.TheVariants as primitives
-use Rattle.insn.specs.declared.operation.Kind.{Kind}
-use Rattle.insn.specs.declared.operation.Kind.TheVariants.{Int, Long, Float, Double}
+use Rattle.std.specs.Prelude.{ℕ, ◌+◌, List, [], ◌∷◌, ◌++◌, slice_get, Option, Some, None}
 use Rattle.insn.specs.declared.stack.StackPlace.{StackPlace}
 use Rattle.insn.specs.declared.stack.StackPlace.TheVariants.{Narrow, Wide}
-use Rattle.insn.specs.Acts.{StackForm}
-
--- the kind of number as which a primitive type is computed with (Table 2.11.1-B)
-abbrev pub computed_as : Primitive → Kind
-computed_as primitives.Float = Float
-computed_as primitives.Long = Long
-computed_as primitives.Double = Double
-computed_as _ = Int
-
-abbrev pub same_kind : Kind → Kind → Bool
-same_kind Int Int = true
-same_kind Long Long = true
-same_kind Float Float = true
-same_kind Double Double = true
-same_kind _ _ = false
+use Rattle.insn.specs.Operators.{StackForm}
 
 -- what is left beneath as many items as these
 abbrev pub beneath : {A B : Type 0} → List A → List B → List B

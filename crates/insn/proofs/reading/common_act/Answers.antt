@@ -5,8 +5,8 @@ use Rattle.byteorder.specs.Endian.{big_number}
 use Rattle.insn.specs.Instructions.{operands_at, index, constant, local, branch, byte, short}
 use Rattle.insn.specs.Meanings.{index_of, local_of, offset_of}
 use Rattle.insn.specs.private.Parts.{index_and_byte}
-use Rattle.insn.proofs.Plain.{has_number, byte_there, two_there, by_part, by_any, increment_there, interface_there}
-use Rattle.insn.proofs.reading.act_with_operands.Goals as goal
+use Rattle.insn.proofs.Taken.{has_number, byte_there, two_there, by_part, by_any, increment_there, interface_there}
+use Rattle.insn.proofs.reading.common_act.Goals as goal
 
 pub returns-in_ok-act_of_index-in-Index : goal.returns-in_ok-act_of_index-in-Index
 unfolding operands_at

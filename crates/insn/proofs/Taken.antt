@@ -1,8 +1,10 @@
--- Plain instructions: any bytes behind an opcode of a form, as many as it has, are its operands.
-use Rattle.std.proofs.Common.{◌≡◌, ◌∙◌, ℕ, ◌+◌, zero, suc, ◌<◌, ◌≤◌, true, List, [], ◌∷◌, ◌++◌, length, get_or, take, drop, Option, Some, None, Result, Ok, Err, is_ok, Bool, refl, sym, ap, subst, arith}
+-- Instructions taken by one look at the bytes in front: any bytes behind an opcode with unconstrained operands are its
+-- operands.
+use Rattle.std.proofs.Common.{◌≡◌, ◌∙◌, ℕ, ◌+◌, zero, suc, ◌<◌, ◌≤◌, true, false, List, [], ◌∷◌, ◌++◌, length, get_or, take, drop, Option, Some, None, Result, Ok, Err, is_ok, Bool, refl, sym, ap, subst, arith}
+use Rattle.std.proofs.lemmas.Bool.{le-ltb}
 use Rattle.std.proofs.lemmas.List.{append-nil, length-drop, length-take-le, nil_from_length, take-append-drop}
 use Rattle.std.specs.Int.{cast_signed, w8, w16, w32}
-use Rattle.std.specs.Prelude.{option_map, nat_eq, if◌then◌else◌}
+use Rattle.std.specs.Prelude.{option_map, nat_eq, if◌then◌else◌, IsTrue, ◌↔◌}
 use Rattle.std.specs.Result.{result_ok}
 use Rattle.byteorder.specs.Endian.{big_number}
 use Rattle.layout.specs.Place.{Place, Took}
@@ -26,7 +28,8 @@ use Rattle.insn.specs.Views.{act_view}
 use Rattle.insn.specs.private.Table.{TableRow, table_opcode, act_where, IsRowOf}
 use Rattle.insn.proofs.Spelled.{outcome}
 use Rattle.insn.specs.private.Parts.{IsActAlways, IsActBy}
-use Rattle.insn.specs.private.Plain.{form_length, plain_length, SkipsPlain, TakesNew, TakesAct, HasAct}
+use Rattle.insn.specs.Unconstrained.{form_length, unconstrained_length, HasUnconstrained}
+use Rattle.insn.specs.private.Taken.{SkipsUnconstrained, TakesNew, TakesAct, HasAct}
 
 -- operands that stand behind an opcode, of its form
 pub record Behind (f : Form) (bytes : List ℕ) : Type 0 where
@@ -159,32 +162,51 @@ part_ok view k old new (Err f) b read e = absurd cc
 
 -- ---- an instruction that is skipped
 
-makes_none : (o : Opcode) (x : Operands) → 0 < plain_length (Some o) → made_index (act_of (meaning o) x) ≡ None
+makes_none : (o : Opcode) (x : Operands) → 0 < unconstrained_length (Some o) → made_index (act_of (meaning o) x) ≡ None
 makes_none New x some = absurd (omega (arith, some))
 makes_none o x some = refl
 
-length_by_form : (o : Opcode) → 0 < plain_length (Some o) → plain_length (Some o) ≡ form_length (form o)
+length_by_form : (o : Opcode) → 0 < unconstrained_length (Some o) → unconstrained_length (Some o) ≡ form_length (form o)
 length_by_form New some = absurd (omega (arith, some))
 length_by_form o some = refl
 
-skipped_behind : (old new : Place) (n : ℕ) (bytes : List ℕ) (z : Option Opcode) → opcode_of n ≡ z → 1 + length bytes ≡ plain_length z → Took (n ∷ bytes) old new
-    → SkipsPlain old new true
+skipped_behind : (old new : Place) (n : ℕ) (bytes : List ℕ) (z : Option Opcode) → opcode_of n ≡ z → 1 + length bytes ≡ unconstrained_length z → Took (n ∷ bytes) old new
+    → SkipsUnconstrained old new true
 skipped_behind old new n bytes None named long took = absurd (omega (arith, long))
 skipped_behind old new n bytes (Some o) named long took =
-    let some : 0 < plain_length (Some o) = omega (arith, long) in
+    let some : 0 < unconstrained_length (Some o) = omega (arith, long) in
     let b = operands_in (form o) bytes (long ∙ length_by_form o some) in
     let none = subst (λ (p : Opcode). made_index (act_of (meaning p) b.operands) ≡ None) (sym (b.plain o)) (makes_none o b.operands some) in
     (record { opcode = o; operands = b.operands }, none, n ∷ bytes, spelled_behind old.at n o bytes b.operands named (b.spelled old.at), took)
 
 pub skipped : {X : Type 0} (view : X → List ℕ) (old new : Place) (k d : ℕ) (answer : Result X ReadFault) (said : Bool) → 1 ≤ length old.rest
-    → k ≡ plain_length (opcode_of (get_or old.rest 0 d)) → 0 < k → Reads (part k done) view old new answer → said ≡ is_ok answer → SkipsPlain old new said
+    → k ≡ unconstrained_length (opcode_of (get_or old.rest 0 d)) → 0 < k → Reads (part k done) view old new answer → said ≡ is_ok answer → SkipsUnconstrained old new said
 skipped view old new k d (Ok b) said more is some read e =
     let p = part_took view k old new b read in
     let first = opcode_first k old.rest d some more in
-    let long : 1 + length (drop 1 (take k old.rest)) ≡ plain_length (opcode_of (get_or old.rest 0 d)) = omega (arith, is, ap length first, length-take-le k old.rest p.0) in
-    subst (λ (z : Bool). SkipsPlain old new z) (sym e)
+    let long : 1 + length (drop 1 (take k old.rest)) ≡ unconstrained_length (opcode_of (get_or old.rest 0 d)) = omega (arith, is, ap length first, length-take-le k old.rest p.0) in
+    subst (λ (z : Bool). SkipsUnconstrained old new z) (sym e)
     (skipped_behind old new (get_or old.rest 0 d) (drop 1 (take k old.rest)) _ refl long (subst (λ (t : List ℕ). Took t old new) first p.1))
-skipped view old new k d (Err f) said more is some read e = subst (λ (z : Bool). SkipsPlain old new z) (sym e) read.1
+skipped view old new k d (Err f) said more is some read e = subst (λ (z : Bool). SkipsUnconstrained old new z) (sym e) read.1
+
+has_front : (bytes : List ℕ) (k d : ℕ) → 1 ≤ length bytes → k ≡ unconstrained_length (opcode_of (get_or bytes 0 d)) → 0 < k → k ≤ length bytes → HasUnconstrained bytes
+has_front [] k d more is some enough = absurd (omega (arith, more))
+has_front (b ∷ bytes) k d more is some enough = (omega (arith, is, some), omega (arith, is, enough))
+
+front_has : (bytes : List ℕ) (k d : ℕ) → k ≡ unconstrained_length (opcode_of (get_or bytes 0 d)) → HasUnconstrained bytes → (0 < k) × (k ≤ length bytes)
+front_has [] k d is has = absurd has
+front_has (b ∷ bytes) k d is has = (omega (arith, is, has.0), omega (arith, is, has.1))
+
+part_whole : (k at : ℕ) (bytes : List ℕ) → k ≤ length bytes → reads (part k done) at bytes ≡ Ok (take k bytes, record { at = at + k; rest = drop k bytes })
+part_whole k at bytes enough = rw (le-ltb (length bytes) k enough) refl
+
+pub skipped_when : {X : Type 0} (view : X → List ℕ) (old new : Place) (k d : ℕ) (answer : Result X ReadFault) (said : Bool) → 1 ≤ length old.rest
+    → k ≡ unconstrained_length (opcode_of (get_or old.rest 0 d)) → 0 < k → Reads (part k done) view old new answer → said ≡ is_ok answer → IsTrue said ↔ HasUnconstrained old.rest
+skipped_when view old new k d (Ok b) said more is some read e = (λ t. has_front old.rest k d more is some (part_took view k old new b read).0, λ has. e)
+skipped_when view old new k d (Err f) said more is some read e = (
+  λ t. absurd (let both : false ≡ true = sym e ∙ t in cc),
+  λ has. absurd (let both = sym read.0 ∙ part_whole k old.at old.rest (front_has old.rest k d is has).1 in cc),
+)
 
 -- ---- an instruction that is taken
 
