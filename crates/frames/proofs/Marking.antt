@@ -12,7 +12,7 @@ use Rattle.insn.specs.Meanings.{Act, New, act, made_index}
 use Rattle.insn.specs.Offsets.{acts, at_offset, by_made}
 use Rattle.insn.specs.CodeResults.{or_none, instructions_in}
 use Rattle.insn.specs.Views.{view, views}
-use Rattle.insn.proofs.CodeLaws.{SoFar, told_step, code_step, code_whole, shorter, has_bytes}
+use Rattle.insn.proofs.CodeLaws.{SoFar, given_step, code_step, code_whole, shorter, has_bytes}
 use Rattle.insn.proofs.CodeResults.{only_result}
 use Rattle.frames.specs.declared.code_starts.StartKind.{StartKind}
 use Rattle.frames.specs.declared.code_starts.StartKind.TheVariants.{Inside}
@@ -56,7 +56,7 @@ clear_marked marks h k = subst (λ (x : StartKind). IsMark x None) (sym (h k)) (
 
 module _ (code : List ℕ) (old new : Place) (marks : List StartKind) (step : Result (ℕ × Option ℕ) CodeFault) (x : ℕ × Option ℕ) (now : Marking code old marks) (stepped : StepsBy (λ (y : ℕ × Option ℕ). y) by_made old (Some step) new) (is : step ≡ Ok x) where
   told : (i : Instruction) × (x ≡ by_made (old.at, i)) × StepsThrough (λ (y : ℕ × Instruction). y) old (Some (Ok (old.at, i))) new
-  told = told_step (λ (y : ℕ × Option ℕ). y) by_made old new step x stepped is
+  told = given_step (λ (y : ℕ × Option ℕ). y) by_made old new step x stepped is
 
   instruction : Instruction
   instruction = told.0

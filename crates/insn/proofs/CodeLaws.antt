@@ -127,12 +127,12 @@ pub step_fault : {X : Type 0} (view : X → ℕ × Instruction) (bytes : List �
 step_fault view bytes xs old new (Ok x) e so s is = absurd cc
 step_fault view bytes xs old new (Err f) e so s is = let same : f ≡ e = cc in subst (λ (g : CodeFault). FaultyCode bytes g) same (code_fault bytes xs old f so s.0 s.1)
 
--- a step of which something is told is a step
-pub told_step : {X Y : Type 0} (view : X → Y) (told : ℕ × Instruction → Y) (old new : Place) (step : Result X CodeFault) (x : X)
-    → StepsBy view told old (Some step) new → step ≡ Ok x
-    → (i : Instruction) × (view x ≡ told (old.at, i)) × StepsThrough (λ (y : ℕ × Instruction). y) old (Some (Ok (old.at, i))) new
-told_step view told old new step x s is =
-    let (i, same, first, spells, took) = subst (λ (r : Result _ CodeFault). StepsBy view told old (Some r) new) is s in
+-- a step of which something is given is a step
+pub given_step : {X Y : Type 0} (view : X → Y) (given : ℕ × Instruction → Y) (old new : Place) (step : Result X CodeFault) (x : X)
+    → StepsBy view given old (Some step) new → step ≡ Ok x
+    → (i : Instruction) × (view x ≡ given (old.at, i)) × StepsThrough (λ (y : ℕ × Instruction). y) old (Some (Ok (old.at, i))) new
+given_step view given old new step x s is =
+    let (i, same, first, spells, took) = subst (λ (r : Result _ CodeFault). StepsBy view given old (Some r) new) is s in
     (i, same, (refl, first, spells, took))
 
 pub unless_memory : {P : Type 0} (e : CodeFault) → P → UnlessMemory e P

@@ -116,7 +116,7 @@ none_written all rest i out so none bytes fit s =
     let there : 0 + code_size (instructions so.list) ≡ length out = omega (arith, so.long) in
     none f.0 f.1 (subst (λ (n : ℕ). SpellsInstruction n f.0 i) there f.2)
 
--- ---- what is answered
+-- ---- what is returned
 
 pub small_enough : (all : List Instruction) → ltb MAX_CODE_BYTES (code_size all) ≡ false → IsTooLarge all → ⊥
 small_enough all small large = let le = ltb-false _ _ small in absurd (omega (arith, le, large))

@@ -55,7 +55,7 @@ module _ (xs : List (ℕ × Insn)) (at : ℕ) where
       let greater : (get_or xs i none).0 ≤ (get_or xs j none).0 = grind (arith, in_order 0 xs i j none r, λ (same : i ≡ j). ap (λ (k : ℕ). (get_or xs k none).0) same) in
       grind (arith, nat_tests))
 
-  -- what a binary search answers
+  -- what a binary search returns
   pub searched : (r : Result ℕ ℕ) → IsSearchInRange r (length xs) → IsBinarySearchResult (λ (x : ℕ × Insn). nat_cmp x.0 at) xs r
       → StartsRise 0 (views xs) → is_ok r ≡ has_offset (views xs) at
   searched (Ok k) within equal r = sym (start_at xs k at none within (ranked _ at _ (sym (equal none))))

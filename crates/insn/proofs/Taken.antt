@@ -154,7 +154,7 @@ part_took view k old new b e =
       },
     )
 
--- a part that was read, where its refusal answers nothing
+-- a part that was read, where its refusal gives nothing
 part_ok : {X : Type 0} (view : X → List ℕ) (k : ℕ) (old new : Place) (answer : Result X ReadFault) (b : X) → Reads (part k done) view old new answer → Some b ≡ result_ok answer
     → reads (part k done) old.at old.rest ≡ Ok (view b, new)
 part_ok view k old new (Ok x) b read e = let same : b ≡ x = cc in rw same read
@@ -290,7 +290,7 @@ act_taken view old new d r a k answer b row has read e =
 pub increment_there : (bytes : List ℕ) (f : Form) (m : Meaning) (a : program.Act) → f ≡ forms.Increment → 3 ≤ length bytes
     → ((x : Operands) → get_or bytes 1 0 ≡ local_of x → act_view a ≡ act_of m x) → HasAct bytes f m a 3
 unfolding operands_at
-increment_there (n ∷ l ∷ b ∷ rest) f m a is long told =
+increment_there (n ∷ l ∷ b ∷ rest) f m a is long given =
     let named : l ≡ big_number 1 (l ∷ []) = omega arith in
     record {
       operands = increment (big_number 1 (l ∷ [])) (cast_signed w8 (big_number 1 (b ∷ [])));
@@ -298,9 +298,9 @@ increment_there (n ∷ l ∷ b ∷ rest) f m a is long told =
       within = long;
       spelled = λ at. subst (λ (g : Form). Spells (operands_at at g) (l ∷ b ∷ []) (Ok (increment (big_number 1 (l ∷ [])) (cast_signed w8 (big_number 1 (b ∷ [])))))) (sym is) (two_numbers 1 1 (λ n by. increment n (cast_signed w8 by)) (l ∷ b ∷ []) refl);
       plain = λ o. refl;
-      act = told _ named;
+      act = given _ named;
     }
-increment_there _ f m a is long told = absurd (omega (arith, long))
+increment_there _ f m a is long given = absurd (omega (arith, long))
 
 abbrev interface_behind : ℕ → ℕ → ℕ → ℕ → Format Outcome
 interface_behind at i count n = if nat_eq n 0 then done (outcome (invoke_interface i count)) else done (Err (NonZeroByte at))
@@ -308,7 +308,7 @@ interface_behind at i count n = if nat_eq n 0 then done (outcome (invoke_interfa
 pub interface_there : (bytes : List ℕ) (f : Form) (m : Meaning) (a : program.Act) → f ≡ forms.InvokeInterface → 5 ≤ length bytes → get_or bytes 4 0 ≡ 0
     → ((x : Operands) → big_number 2 (get_or bytes 1 0 ∷ get_or bytes 2 0 ∷ []) ≡ index_of x → get_or bytes 3 0 ≡ byte_of x → act_view a ≡ act_of m x) → HasAct bytes f m a 5
 unfolding operands_at invoke_interface_at
-interface_there (n ∷ h ∷ l ∷ c ∷ z ∷ rest) f m a is long none told =
+interface_there (n ∷ h ∷ l ∷ c ∷ z ∷ rest) f m a is long none given =
     let i = big_number 2 (h ∷ l ∷ []) in
     let count = big_number 1 (c ∷ []) in
     let free : big_number 1 (z ∷ []) ≡ 0 = omega (arith, none) in
@@ -322,6 +322,6 @@ interface_there (n ∷ h ∷ l ∷ c ∷ z ∷ rest) f m a is long none told =
       spelled = λ at. subst (λ (g : Form). Spells (operands_at at g) (h ∷ l ∷ c ∷ z ∷ []) (outcome (invoke_interface i count))) (sym is)
           (h ∷ l ∷ [], c ∷ z ∷ [], refl, refl, (c ∷ [], z ∷ [], refl, refl, (z ∷ [], [], refl, refl, last at)));
       plain = λ o. refl;
-      act = told (invoke_interface i count) refl named;
+      act = given (invoke_interface i count) refl named;
     }
-interface_there _ f m a is long none told = absurd (omega (arith, long))
+interface_there _ f m a is long none given = absurd (omega (arith, long))

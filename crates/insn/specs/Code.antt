@@ -57,13 +57,13 @@ StepsThrough view old (Some (Ok x)) new = ((view x).0 ≡ old.at) × (first : Li
     × SpellsInstruction old.at first (view x).1 × Took first old new
 StepsThrough view old (Some (Err e)) new = (0 < length old.rest) × FaultyInstruction old.at old.rest e × (new.rest ≡ [])
 
--- A step through code that tells something of the instruction in front, as `told` has it; and otherwise as above.
+-- A step through code that gives something of the instruction in front, as `given` has it; and otherwise as above.
 abbrev pub StepsBy : {X Y : Type 0} → (X → Y) → (ℕ × Instruction → Y) → Place → Option (Result X CodeFault) → Place
     → Type 0
-StepsBy view told old None new = (old.rest ≡ []) × (new ≡ old)
-StepsBy view told old (Some (Ok x)) new = (i : Instruction) × (view x ≡ told (old.at, i)) × (first : List ℕ)
+StepsBy view given old None new = (old.rest ≡ []) × (new ≡ old)
+StepsBy view given old (Some (Ok x)) new = (i : Instruction) × (view x ≡ given (old.at, i)) × (first : List ℕ)
     × SpellsInstruction old.at first i × Took first old new
-StepsBy view told old (Some (Err e)) new = (0 < length old.rest) × FaultyInstruction old.at old.rest e × (new.rest ≡ [])
+StepsBy view given old (Some (Err e)) new = (0 < length old.rest) × FaultyInstruction old.at old.rest e × (new.rest ≡ [])
 
 -- an instruction is in front of the place
 abbrev pub HasInstruction : Place → Type 0

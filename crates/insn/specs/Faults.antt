@@ -6,7 +6,7 @@ use Rattle.layout.specs.declared.fault.ReadFault.{ReadFault}
 use Rattle.insn.specs.declared.fault.CodeFault.{CodeFault}
 use Rattle.insn.specs.declared.fault.CodeFault.TheVariants.{OutOfMemory, BadOpcode, CutInstruction, BadSwitch, BadWide, NonZeroByte}
 
--- the number by which each fault is told to users
+-- the number by which each fault is reported
 abbrev pub code_fault_number : CodeFault → ℕ
 code_fault_number OutOfMemory = 1
 code_fault_number (BadOpcode at) = 31

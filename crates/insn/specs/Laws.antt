@@ -1,4 +1,4 @@
--- Laws that follow of code's definition alone (JVMS 4.7.3): instructions are one code at most, and the two ways lead
+-- Laws that follow from code's definition alone (JVMS 4.7.3): instructions are one code at most, and the two ways lead
 -- back.
 use Rattle.std.specs.Prelude.{◌≡◌, ℕ, ◌≤◌, List, length, Result, Ok, Err, IfOk, ◌⊎◌}
 use Rattle.layout.specs.Format.{AreBytes}

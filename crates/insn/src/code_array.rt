@@ -60,8 +60,7 @@ impl<'a> Instructions<'a> {
         self.cursor.at()
     }
 
-    /// Goes behind the instruction in front and tells what it means, as [`act`](crate::act) does. One has to stand
-    /// there.
+    /// Goes behind the instruction in front and returns its act, as [`act`](crate::act) does. One has to stand there.
     #[inline(always)]
     pub fn take_act(&mut self) -> Act<'a>
         requires { HasInstruction self.old }
@@ -96,8 +95,8 @@ impl<'a> Instructions<'a> {
         skip_unconstrained(&mut self.cursor)
     }
 
-    /// Goes on as `next` does, and tells of an instruction where it begins and, if it is a `new`, the index of the
-    /// class of which it makes an object (JVMS 6.5, new).
+    /// Goes on as `next` does, and returns where an instruction begins and, if it is a `new`, the index of the class
+    /// of which it makes an object (JVMS 6.5, new).
     #[inline(never)]
     pub fn next_start(&mut self) -> Option<Result<(usize, Option<u16>), CodeFault>>
         ensures { StepsBy (λ x. x) by_made self.old result self.new }

@@ -39,10 +39,10 @@ pub enum Operands<'a> {
     /// The index of `multianewarray`, and how many dimensions are made.
     MultiNewArray { index: u16, dimensions: u8 },
     /// `tableswitch`: all bytes behind the opcode, whose parts
-    /// [`TableSwitch`](crate::TableSwitch) tells.
+    /// [`TableSwitch`](crate::TableSwitch) gives.
     TableSwitch(&'a [u8]),
     /// `lookupswitch`: all bytes behind the opcode, whose parts
-    /// [`LookupSwitch`](crate::LookupSwitch) tells.
+    /// [`LookupSwitch`](crate::LookupSwitch) gives.
     LookupSwitch(&'a [u8]),
     /// `wide` before a load, a store or `ret`: that opcode, and the number of a local variable.
     WideLocal { opcode: Opcode, local: u16 },

@@ -4,7 +4,7 @@ ghost use Rattle.insn.specs.Opcodes.{number};
 
 use std::fmt;
 
-/// The opcodes by the standard's mnemonics (JVMS 6.5, 7). Those from 202 on have no meaning in a
+/// The opcodes by the standard's mnemonics (JVMS 6.5, 7). Numbers from 202 on have no meaning in a
 /// class file.
 #[derive(Clone, Copy, PartialEq, Eq)]
 pub enum Opcode {

@@ -288,7 +288,7 @@ fn is_spelled(at: usize, insn: &Insn<'_>) -> bool
     has_form(insn) && agrees(at, &insn.operands)
 }
 
-/// Appends the instruction, which begins where the vector ends; or answers 18 where no bytes are
+/// Appends the instruction, which begins where the vector ends; or returns 18 where no bytes are
 /// the instruction there, or 1.
 pub(crate) fn put_insn(out: &mut Vec<u8>, insn: &Insn<'_>) -> Result<(), WriteFault>
     ensures { AppendsInstruction (length out.old.items) (view insn.now) out.old.items out.new.items result }

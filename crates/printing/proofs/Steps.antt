@@ -8,7 +8,7 @@ use Rattle.insn.specs.Code.{StepsThrough, StepsBy}
 use Rattle.insn.specs.Offsets.{at_offset, by_made}
 use Rattle.insn.specs.CodeResults.{Reading, behind}
 use Rattle.insn.proofs.CodeResults.{reading_at, step_reads, stop_reads, end_reads}
-use Rattle.insn.proofs.CodeLaws.{told_step, shorter}
+use Rattle.insn.proofs.CodeLaws.{given_step, shorter}
 use Rattle.printing.specs.Classes.{fault_of}
 
 fault_of_behind : (x : ℕ × Instruction) (r : Reading) → fault_of (behind x r) ≡ fault_of r
@@ -36,7 +36,7 @@ fault_end view old new s = ap fault_of (end_reads view old new s)
 -- steps that tell of an instruction where it begins
 module _ (old new : Place) (step : Result (ℕ × Option ℕ) CodeFault) (s : StepsBy (λ (y : ℕ × Option ℕ). y) by_made old (Some step) new) where
   through : (x : ℕ × Option ℕ) → step ≡ Ok x → (i : Instruction) × (x ≡ by_made (old.at, i)) × StepsThrough (λ (y : ℕ × Instruction). y) old (Some (Ok (old.at, i))) new
-  through x is = told_step (λ (y : ℕ × Option ℕ). y) by_made old new step x s is
+  through x is = given_step (λ (y : ℕ × Option ℕ). y) by_made old new step x s is
 
   pub start_behind : (x : ℕ × Option ℕ) → step ≡ Ok x → fault_of (reading_at old) ≡ fault_of (reading_at new)
   start_behind x is =

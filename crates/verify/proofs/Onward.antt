@@ -12,7 +12,7 @@ use Rattle.insn.specs.Meanings.{Act}
 use Rattle.insn.specs.Offsets.{at_offset, first_offset, acts, by_act}
 use Rattle.insn.specs.CodeResults.{Reading, behind}
 use Rattle.insn.specs.Views.{act_located}
-use Rattle.insn.proofs.CodeLaws.{has_bytes, told_step}
+use Rattle.insn.proofs.CodeLaws.{has_bytes, given_step}
 use Rattle.insn.proofs.CodeResults.{reading_at, step_reads, end_reads, some_left}
 use Rattle.frames.specs.FrameFact.{FrameFact}
 use Rattle.frames.specs.Conditions.{Reason, Conditions, least}
@@ -116,7 +116,7 @@ stepped old new y x xs same (Err fault) now e = absurd cc
 pub steps : (old new : Place) (x : ℕ × program.Act) (xs : List (ℕ × Instruction))
     → reading_at old ≡ Ok xs → StepsBy act_located by_act old (Some (Ok x)) new → Steps old new (act_located x) xs
 steps old new x xs read s =
-    let (i, same, t) = told_step act_located by_act old new (Ok x) x s refl in
+    let (i, same, t) = given_step act_located by_act old new (Ok x) x s refl in
     stepped old new (old.at, i) (act_located x) xs same (reading_at new) refl (sym (step_reads (λ (y : ℕ × Instruction). y) old new (old.at, i) t) ∙ read)
 
 -- the step from a place of which the offset was asked
@@ -133,7 +133,7 @@ at_end p xs read e =
 pub step_within : (old new : Place) (x : ℕ × program.Act)
     → StepsBy act_located by_act old (Some (Ok x)) new → (old.at ≡ x.0) × (new.at + length new.rest ≡ old.at + length old.rest) × (length new.rest < length old.rest)
 step_within old new x s =
-    let (i, same, (here, first, spelled, took)) = told_step act_located by_act old new (Ok x) x s refl in
+    let (i, same, (here, first, spelled, took)) = given_step act_located by_act old new (Ok x) x s refl in
     let some = has_bytes old.at first (Ok i) spelled in (
       sym (ap (λ (z : ℕ × Act). z.0) same),
       omega (arith, took.at, ap length took.parts, length-append first new.rest),
