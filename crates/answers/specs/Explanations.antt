@@ -9,7 +9,7 @@ use Rattle.insn.specs.CodeResults.{code_result}
 use Rattle.frames.specs.FrameFact.{FrameFact}
 use Rattle.rules.specs.Reasons.{reason_number}
 use Rattle.printing.specs.Frames.{frame_lines, frame_fields}
-use Rattle.printing.specs.Classes.{sizes_line, line_at, named_at, catch_line, size_fields, instruction_fields, named_fields_at, table_fields}
+use Rattle.printing.specs.CodeLines.{sizes_line, line_at, named_at, catch_line, size_fields, instruction_fields, named_fields_at, table_fields}
 use Rattle.printing.specs.Json.{Field, fields_then, fields_behind, object_end}
 use Rattle.verify.specs.declared.verdict.Verdict.{Verdict}
 use Rattle.verify.specs.declared.verdict.Verdict.TheVariants.{Verified, NoCode, Refused}

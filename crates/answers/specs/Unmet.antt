@@ -10,8 +10,8 @@ use Rattle.rules.specs.Unmet.{UnmetFact, operand, receiver, local, units}
 use Rattle.printing.specs.Frames.{type_text}
 use Rattle.printing.specs.Json as json
 use Rattle.printing.specs.Json.{Field, word, written}
-use Rattle.printing.specs.declared.within.Within.{Within}
-use Rattle.printing.specs.declared.within.Within.TheVariants.{Words, Json}
+use Rattle.printing.specs.declared.names_in.Within.{Within}
+use Rattle.printing.specs.declared.names_in.Within.TheVariants.{Words, Json}
 
 -- ---- types
 

@@ -8,8 +8,8 @@ use Rattle.names.specs.Names.{bracket}
 use Rattle.names.specs.Descriptors.{FieldDescriptor, dimensioned}
 use Rattle.frames.specs.declared.vtype.VType.{VType}
 use Rattle.frames.specs.VerificationType.{VerificationType, top, type_of}
-use Rattle.printing.specs.declared.within.Within.{Within}
-use Rattle.printing.specs.declared.within.Within.TheVariants.{Words}
+use Rattle.printing.specs.declared.names_in.Within.{Within}
+use Rattle.printing.specs.declared.names_in.Within.TheVariants.{Words}
 use Rattle.printing.specs.Frames.{descriptor_text, type_text, more_text, types_text, in_front, in_use, if_top}
 
 pub brackets_left : (n c : ℕ) → c < n → replicate (n - c) bracket ≡ bracket ∷ replicate (n - (c + 1)) bracket

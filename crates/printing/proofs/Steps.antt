@@ -6,12 +6,12 @@ use Rattle.insn.specs.declared.fault.CodeFault.{CodeFault}
 use Rattle.insn.specs.Instructions.{Instruction}
 use Rattle.insn.specs.Code.{StepsThrough, StepsBy}
 use Rattle.insn.specs.Offsets.{at_offset, by_made}
-use Rattle.insn.specs.CodeResults.{Reading, behind}
+use Rattle.insn.specs.CodeResults.{CodeResult, behind}
 use Rattle.insn.proofs.CodeResults.{reading_at, step_reads, stop_reads, end_reads}
 use Rattle.insn.proofs.CodeLaws.{given_step, shorter}
-use Rattle.printing.specs.Classes.{fault_of}
+use Rattle.printing.specs.CodeLines.{fault_of}
 
-fault_of_behind : (x : ℕ × Instruction) (r : Reading) → fault_of (behind x r) ≡ fault_of r
+fault_of_behind : (x : ℕ × Instruction) (r : CodeResult) → fault_of (behind x r) ≡ fault_of r
 fault_of_behind x (Ok xs) = refl
 fault_of_behind x (Err e) = refl
 
@@ -54,24 +54,24 @@ module _ (old new : Place) (step : Result (ℕ × Option ℕ) CodeFault) (s : St
       fault_here (λ (y : ℕ × Instruction). y) old new (Err e) e (subst (λ (r : Result (ℕ × Option ℕ) CodeFault). StepsBy (λ (y : ℕ × Option ℕ). y) by_made old (Some r) new) is s) refl
 
 -- the instructions that are left behind one
-pub left_behind : (x : ℕ × Instruction) (r : Reading) (xs : List (ℕ × Instruction)) → behind x r ≡ Ok xs → (ys : List (ℕ × Instruction)) × (r ≡ Ok ys) × (xs ≡ x ∷ ys)
+pub left_behind : (x : ℕ × Instruction) (r : CodeResult) (xs : List (ℕ × Instruction)) → behind x r ≡ Ok xs → (ys : List (ℕ × Instruction)) × (r ≡ Ok ys) × (xs ≡ x ∷ ys)
 left_behind x (Ok ys) xs e = let same : x ∷ ys ≡ xs = cc in (ys, refl, sym same)
 left_behind x (Err f) xs e = absurd cc
 
 -- code with a fault is no list
-pub no_list : (e : CodeFault) (r : Reading) (xs : List (ℕ × Instruction)) → fault_of r ≡ Some e → r ≡ Ok xs → ⊥
+pub no_list : (e : CodeFault) (r : CodeResult) (xs : List (ℕ × Instruction)) → fault_of r ≡ Some e → r ≡ Ok xs → ⊥
 no_list e (Ok ys) xs f g = absurd cc
 no_list e (Err d) xs f g = absurd cc
 
-pub nothing_left : (r : Reading) (xs : List (ℕ × Instruction)) → r ≡ Ok [] → r ≡ Ok xs → xs ≡ []
-nothing_left r xs none is = let same : Ok [] ≡ (let o : Reading = Ok xs in o) = sym none ∙ is in let e : [] ≡ xs = cc in sym e
+pub nothing_left : (r : CodeResult) (xs : List (ℕ × Instruction)) → r ≡ Ok [] → r ≡ Ok xs → xs ≡ []
+nothing_left r xs none is = let same : Ok [] ≡ (let o : CodeResult = Ok xs in o) = sym none ∙ is in let e : [] ≡ xs = cc in sym e
 
 -- without one it is a list
-pub is_list : (r : Reading) → fault_of r ≡ None → (xs : List (ℕ × Instruction)) × (r ≡ Ok xs)
+pub is_list : (r : CodeResult) → fault_of r ≡ None → (xs : List (ℕ × Instruction)) × (r ≡ Ok xs)
 is_list (Ok xs) e = (xs, refl)
 is_list (Err f) e = absurd cc
 
-pub is_fault : (r : Reading) (e : CodeFault) → fault_of r ≡ Some e → r ≡ Err e
+pub is_fault : (r : CodeResult) (e : CodeFault) → fault_of r ≡ Some e → r ≡ Err e
 is_fault (Ok xs) e f = absurd cc
 is_fault (Err d) e f = let same : d ≡ e = cc in ap Err same
 

@@ -8,8 +8,8 @@ use Rattle.pool.specs.Kinds.{kind_number}
 use Rattle.pool.specs.Lookups.{Named, text_at, class_name_at, name_and_type_at}
 use Rattle.insn.specs.Instructions.{Instruction, Operands, constant, index, invoke_interface, invoke_dynamic, multi_new_array}
 use Rattle.printing.specs.NamesIn.{name_in}
-use Rattle.printing.specs.declared.within.Within.{Within}
-use Rattle.printing.specs.declared.within.Within.TheVariants.{Words, Json}
+use Rattle.printing.specs.declared.names_in.Within.{Within}
+use Rattle.printing.specs.declared.names_in.Within.TheVariants.{Words, Json}
 use Rattle.printing.specs.Instructions.{number_text, index_text}
 use Rattle.printing.specs.Json.{Field, written}
 

@@ -6,7 +6,7 @@ use Rattle.frames.specs.declared.difference.Sought.{Sought}
 use Rattle.frames.specs.declared.difference.Sought.TheVariants.{No, Missing}
 use Rattle.printing.specs.Frames.{type_text}
 use Rattle.printing.specs.Json.{Field, number, word, written}
-use Rattle.printing.specs.declared.within.Within.TheVariants.{Words, Json}
+use Rattle.printing.specs.declared.names_in.Within.TheVariants.{Words, Json}
 
 -- two types, of which the one that comes is not assignable to the declared one, or is not known to be
 abbrev pub types_differ : Sought → MismatchFact → List ℕ

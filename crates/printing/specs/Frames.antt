@@ -6,8 +6,8 @@ use Rattle.frames.specs.VerificationType.{VerificationType, top, int, float, lon
 use Rattle.frames.specs.FrameFact.{FrameFact}
 use Rattle.printing.specs.Json.{Field, strings}
 use Rattle.printing.specs.NamesIn.{spelled_in}
-use Rattle.printing.specs.declared.within.Within.{Within}
-use Rattle.printing.specs.declared.within.Within.TheVariants.{Words, Json}
+use Rattle.printing.specs.declared.names_in.Within.{Within}
+use Rattle.printing.specs.declared.names_in.Within.TheVariants.{Words, Json}
 
 -- a descriptor, the names of classes as they are written there
 abbrev pub descriptor_text : Within → FieldDescriptor → List ℕ

@@ -7,8 +7,8 @@ use Rattle.pool.specs.Entries.{Entry}
 use Rattle.pool.specs.Lookups.{text_at, class_name_at}
 use Rattle.printing.specs.Names.{name_text, spelled_text}
 use Rattle.printing.specs.Json.{character_text, spelled_units}
-use Rattle.printing.specs.declared.within.Within.{Within}
-use Rattle.printing.specs.declared.within.Within.TheVariants.{Words, Json}
+use Rattle.printing.specs.declared.names_in.Within.{Within}
+use Rattle.printing.specs.declared.names_in.Within.TheVariants.{Words, Json}
 
 abbrev pub name_in : Within → List ℕ → List ℕ
 name_in Words bytes = name_text bytes

@@ -16,7 +16,7 @@ use Rattle.printing.specs.Classes.{member_line, class_line, super_line}
 use Rattle.printing.specs.Constants.{behind, constant_line, constant_fields}
 use Rattle.printing.specs.Json as json
 use Rattle.printing.specs.Json.{number, written}
-use Rattle.printing.specs.declared.within.Within.TheVariants.{Words, Json}
+use Rattle.printing.specs.declared.names_in.Within.TheVariants.{Words, Json}
 
 abbrev pub part_lines : ClassValue → Place → List ℕ
 part_lines c (Pool i) = constant_line c.constant_pool i
@@ -26,11 +26,11 @@ part_lines c (Method n) = option_map_or (member_line (codes "  method ") c.const
 
 -- ---- the attribute at fault: its number from 0, and its name if the index leads to a text
 
-abbrev pub named_line : List Entry → ℕ → ℕ → List ℕ
-named_line pool n name = codes "  attribute " ++ (decimal n ++ (behind Words (text_at pool name) ++ codes "\n"))
+abbrev pub named_attribute_line : List Entry → ℕ → ℕ → List ℕ
+named_attribute_line pool n name = codes "  attribute " ++ (decimal n ++ (behind Words (text_at pool name) ++ codes "\n"))
 
 abbrev pub numbered_line : ClassValue → Place → ℕ → List ℕ
-numbered_line c place n = option_map_or (named_line c.constant_pool n) (attribute_name c place n) []
+numbered_line c place n = option_map_or (named_attribute_line c.constant_pool n) (attribute_name c place n) []
 
 -- nothing where no attribute breaks the rule
 abbrev pub attribute_line : ClassValue → FormRule → Place → List ℕ

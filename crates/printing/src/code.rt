@@ -8,7 +8,7 @@ ghost use Rattle.insn.specs.CodeResults.{code_result};
 ghost use Rattle.insn.specs.Views.{view};
 ghost use Rattle.classfile.specs.Views.{handler_view, code_view};
 ghost use Rattle.printing.specs.Writing.{Writes};
-ghost use Rattle.printing.specs.Classes.{sizes_line, reading_lines, line_at, named_at, fault_of, caught_text, range_text, catch_line, catch_string, code_lines, size_fields, instruction_field, instruction_fields, named_fields_at, table_fields};
+ghost use Rattle.printing.specs.CodeLines.{sizes_line, result_lines, line_at, named_at, fault_of, caught_text, range_text, catch_line, catch_string, code_lines, size_fields, instruction_field, instruction_fields, named_fields_at, table_fields};
 ghost use Rattle.printing.specs.Json.{fields_then};
 ghost use Rattle.printing.specs.Instructions.{instruction_line};
 ghost use Rattle.printing.specs.Constants.{named_line, named_fields};
@@ -18,7 +18,7 @@ use crate::instruction::{InstructionText, Located};
 use crate::json::{Enclosed, More, Strings};
 use crate::name::ClassName;
 use crate::print::{Lines, Number, Print, Then, Word, WriteFailed, put_lines};
-use crate::within::{ClassNameIn, Within};
+use crate::names_in::{ClassNameIn, Within};
 use classfile::{CodeAttr, ExceptionHandler};
 use insn::{CodeFault, Insn, Instructions};
 use pool::Pool;
@@ -60,7 +60,7 @@ fn put_instructions<W: Write>(out: &mut W, code: &[u8]) -> Result<(), WriteFaile
 pub struct Instructed<'a>(pub &'a [u8]);
 
 impl<'a> Print for Instructed<'a> {
-    ghost text = { λ t. reading_lines (code_result t.0.now) };
+    ghost text = { λ t. result_lines (code_result t.0.now) };
 
     fn put<W: Write>(&self, out: &mut W) -> Result<(), WriteFailed> {
         match code_fault(self.0) {
@@ -71,7 +71,7 @@ impl<'a> Print for Instructed<'a> {
 }
 
 /// The instruction that begins at an offset of code that is not refused. Takes no memory.
-fn found_at(code: &[u8], at: usize) -> Option<Insn<'_>>
+fn find_instruction(code: &[u8], at: usize) -> Option<Insn<'_>>
     ensures { (xs : List (ℕ × Instruction)) → code_result code.now ≡ Ok xs → option_map view result ≡ at_offset xs at }
 {
     for step in Instructions::new(code) {
@@ -111,7 +111,7 @@ impl<'a> Print for InstructionAt<'a> {
     fn put<W: Write>(&self, out: &mut W) -> Result<(), WriteFailed> {
         match code_fault(self.code) {
             Some(_) => Word("").put(out),
-            None => put_found(out, self.at, found_at(self.code, self.at)),
+            None => put_found(out, self.at, find_instruction(self.code, self.at)),
         }
     }
 }
@@ -151,7 +151,7 @@ impl<'a, B: Print + Copy> Print for InstructionFields<'a, B> {
         match code_fault(self.code) {
             Some(_) => self.behind.put(out),
             None => {
-                let found = found_at(self.code, self.at);
+                let found = find_instruction(self.code, self.at);
                 put_found_field(out, self.at, found, self.behind)
             }
         }
@@ -201,7 +201,7 @@ impl<'p, 'a> Print for NamedAt<'p, 'a> {
     fn put<W: Write>(&self, out: &mut W) -> Result<(), WriteFailed> {
         match code_fault(self.code) {
             Some(_) => Word("").put(out),
-            None => put_named(out, self.pool, found_at(self.code, self.at)),
+            None => put_named(out, self.pool, find_instruction(self.code, self.at)),
         }
     }
 }
@@ -264,7 +264,7 @@ impl<'p, 'a, B: Print + Copy> Print for NamedFields<'p, 'a, B> {
         match code_fault(self.code) {
             Some(_) => self.behind.put(out),
             None => {
-                let found = found_at(self.code, self.at);
+                let found = find_instruction(self.code, self.at);
                 put_named_field(out, self.pool, found, self.behind)
             }
         }

@@ -10,7 +10,7 @@ ghost use Rattle.printing.specs.Json.{fields_then};
 use crate::instruction::{Index, Value};
 use crate::json::{Enclosed, More};
 use crate::print::{Number, Print, Then, Word, WriteFailed};
-use crate::within::{NameIn, Within};
+use crate::names_in::{NameIn, Within};
 use insn::Operands;
 use pool::{Constant, Pool};
 use std::io::Write;

@@ -8,11 +8,11 @@ ghost use Rattle.frames.specs.VerificationType.{type_of};
 ghost use Rattle.frames.specs.FrameFact.{frame_of};
 ghost use Rattle.printing.specs.Frames.{descriptor_text, type_text, more_text, types_text, in_use, if_top, types_line, flags_line, frame_lines, flag_fields, frame_fields};
 ghost use Rattle.printing.specs.Json.{fields_then};
-ghost use Rattle.printing.specs.declared.within.Within.TheVariants as within;
+ghost use Rattle.printing.specs.declared.names_in.Within.TheVariants as within;
 
 use crate::json::{More as MoreFields, Strings};
 use crate::print::{Lines, Number, Print, Then, Word, WriteFailed, put_bytes, put_lines};
-use crate::within::{SpelledIn, Within};
+use crate::names_in::{SpelledIn, Within};
 use frames::{Frame, VType};
 use names::{Base, Primitive};
 use std::io::Write;

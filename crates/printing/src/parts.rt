@@ -13,7 +13,7 @@ use crate::json::{Enclosed, More};
 use crate::listing::{Above, Head, MemberLine};
 use crate::name::{ClassName, ConstantText, Hexadecimal};
 use crate::print::{Number, Print, Then, Word, WriteFailed};
-use crate::within::{ClassNameIn, TextIn, Within};
+use crate::names_in::{ClassNameIn, TextIn, Within};
 use classfile::{ClassFile, FormRule, Member, Place, attribute_at_fault, attribute_name};
 use pool::Pool;
 use std::io::Write;

@@ -10,7 +10,7 @@ use Rattle.insn.specs.declared.operation.Act as program
 use Rattle.insn.specs.Code.{StepsBy}
 use Rattle.insn.specs.Meanings.{Act}
 use Rattle.insn.specs.Offsets.{at_offset, first_offset, acts, by_act}
-use Rattle.insn.specs.CodeResults.{Reading, behind}
+use Rattle.insn.specs.CodeResults.{CodeResult, behind}
 use Rattle.insn.specs.Views.{act_located}
 use Rattle.insn.proofs.CodeLaws.{has_bytes, given_step}
 use Rattle.insn.proofs.CodeResults.{reading_at, step_reads, end_reads, some_left}
@@ -108,7 +108,7 @@ pub record Steps (old new : Place) (x : ℕ × Act) (xs : List (ℕ × Instructi
   pub all : acts xs ≡ x ∷ acts others
 
 stepped : (old new : Place) (y : ℕ × Instruction) (x : ℕ × Act) (xs : List (ℕ × Instruction)) → x ≡ by_act y
-    → (r : Reading) → reading_at new ≡ r → behind y r ≡ Ok xs → Steps old new x xs
+    → (r : CodeResult) → reading_at new ≡ r → behind y r ≡ Ok xs → Steps old new x xs
 stepped old new y x xs same (Ok ys) now e =
     let all : y ∷ ys ≡ xs = cc in record { others = ys; read = now; all = ap acts (sym all) ∙ ap (λ z. z ∷ acts ys) (sym same) }
 stepped old new y x xs same (Err fault) now e = absurd cc
@@ -127,7 +127,7 @@ taken_at old new n a is s = subst (λ k. StepsBy act_located by_act old (Some (O
 pub at_end : (p : Place) (xs : List (ℕ × Instruction)) → reading_at p ≡ Ok xs → nat_eq (length p.rest) 0 ≡ true → xs ≡ []
 at_end p xs read e =
     let none : length p.rest ≡ 0 = grind (arith, nat_tests, e) in
-    let both : Ok xs ≡ (let r : Reading = Ok [] in r) = sym read ∙ end_reads (λ (y : ℕ × Instruction). y) p p (nil_from_length p.rest none, refl) in cc
+    let both : Ok xs ≡ (let r : CodeResult = Ok [] in r) = sym read ∙ end_reads (λ (y : ℕ × Instruction). y) p p (nil_from_length p.rest none, refl) in cc
 
 -- a step takes bytes, and leaves the others
 pub step_within : (old new : Place) (x : ℕ × program.Act)
@@ -154,5 +154,5 @@ last_is p xs read = by xs (nat_eq (length p.rest) 0) refl read
     by (y ∷ ys) false e q = refl
     by (y ∷ ys) true e q =
         let none : length p.rest ≡ 0 = grind (arith, nat_tests, e) in
-        let both : Ok (y ∷ ys) ≡ (let r : Reading = Ok [] in r) = sym q ∙ end_reads {X = ℕ × Instruction} (λ x. x) p p (none_left p.rest none, refl) in
+        let both : Ok (y ∷ ys) ≡ (let r : CodeResult = Ok [] in r) = sym q ∙ end_reads {X = ℕ × Instruction} (λ x. x) p p (none_left p.rest none, refl) in
         absurd cc

@@ -1,7 +1,7 @@
 use Rattle.std.proofs.Common.{ℕ, ◌∙◌, sym, ap}
 use Rattle.insn.specs.Instructions.{Instruction}
 use Rattle.insn.proofs.CodeResults.{reading_at, whole_reading}
-use Rattle.printing.specs.Classes.{fault_of}
+use Rattle.printing.specs.CodeLines.{fault_of}
 use Rattle.printing.proofs.Steps.{start_behind, start_shorter, start_here, fault_end}
 use Rattle.printing.proofs.code.code_fault.Goals as goal
 

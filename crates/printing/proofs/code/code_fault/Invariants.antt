@@ -2,7 +2,7 @@
 use Rattle.std.proofs.Common.{◌≡◌, length}
 use Rattle.insn.specs.CodeResults.{code_result}
 use Rattle.insn.proofs.CodeResults.{reading_at}
-use Rattle.printing.specs.Classes.{fault_of}
+use Rattle.printing.specs.CodeLines.{fault_of}
 use Rattle.printing.proofs.code.code_fault.Given as goal
 
 abbrev pub invariant-loop-step : goal.invariant-loop-step

@@ -2,7 +2,7 @@ use Rattle.std.proofs.Common.{[], Option, sym, subst}
 use Rattle.std.specs.Option.{option_map_or}
 use Rattle.insn.specs.declared.instruction.Insn.{Insn}
 use Rattle.insn.specs.Views.{view}
-use Rattle.printing.specs.Classes.{instruction_field}
+use Rattle.printing.specs.CodeLines.{instruction_field}
 use Rattle.printing.specs.Json.{fields_then}
 use Rattle.printing.specs.Writing.{Writes}
 use Rattle.printing.proofs.code.put_found_field.Goals as goal

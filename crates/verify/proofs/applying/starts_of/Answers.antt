@@ -2,7 +2,7 @@ use Rattle.std.proofs.Common.{◌≡◌, ◌∙◌, ℕ, List, Ok, Err, sym}
 use Rattle.insn.specs.Code.{FaultyCode}
 use Rattle.insn.specs.declared.fault.CodeFault.{CodeFault}
 use Rattle.insn.specs.Instructions.{Instruction}
-use Rattle.insn.specs.CodeResults.{Reading, code_result}
+use Rattle.insn.specs.CodeResults.{CodeResult, code_result}
 use Rattle.insn.specs.Views.{views}
 use Rattle.insn.proofs.CodeResults.{only_result}
 use Rattle.verify.proofs.FramesFound.{told}
@@ -10,7 +10,7 @@ use Rattle.verify.proofs.applying.starts_of.Goals as goal
 
 -- code that was read has no fault
 no_fault : (code : List ℕ) (xs : List (ℕ × Instruction)) (fault : CodeFault) → code_result code ≡ Ok xs → FaultyCode code fault → ⊥
-no_fault code xs fault read faulty = let both : Err fault ≡ (let r : Reading = Ok xs in r) = sym (only_result code (Err fault) faulty) ∙ read in cc
+no_fault code xs fault read faulty = let both : Err fault ≡ (let r : CodeResult = Ok xs in r) = sym (only_result code (Err fault) faulty) ∙ read in cc
 
 pub unreachable-requires : goal.unreachable-requires
 unreachable-requires g c =

@@ -4,7 +4,7 @@ use Rattle.classfile.specs.Views.{attribute_view, code_view}
 use Rattle.insn.specs.CodeResults.{code_result}
 use Rattle.frames.specs.declared.difference.Sought.{Sought}
 use Rattle.rules.specs.Reasons.{reason_number}
-use Rattle.printing.specs.Classes.{sizes_line, line_at, named_at}
+use Rattle.printing.specs.CodeLines.{sizes_line, line_at, named_at}
 use Rattle.printing.specs.Writing.{Writes}
 use Rattle.verify.specs.Coming.{frames_view}
 use Rattle.answers.specs.Details.{detail_line_of}

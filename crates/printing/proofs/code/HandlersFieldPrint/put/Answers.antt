@@ -1,6 +1,6 @@
 use Rattle.std.proofs.Common.{ℕ, List, [], ◌∷◌, codes, ap, subst}
 use Rattle.classfile.specs.Views.{handler_view}
-use Rattle.printing.specs.Classes.{catch_string}
+use Rattle.printing.specs.CodeLines.{catch_string}
 use Rattle.printing.specs.Json.{strings, fields_then}
 use Rattle.printing.specs.Writing.{Writes}
 use Rattle.printing.proofs.Fields.{of_views}

@@ -1,7 +1,7 @@
 use Rattle.std.proofs.Common.{sym, subst}
 use Rattle.std.proofs.lemmas.List.Folds.{flat_map-map}
 use Rattle.classfile.specs.Views.{handler_view}
-use Rattle.printing.specs.Classes.{catch_line}
+use Rattle.printing.specs.CodeLines.{catch_line}
 use Rattle.printing.specs.Writing.{Writes}
 use Rattle.printing.proofs.code.HandlersPrint.put.Goals as goal
 

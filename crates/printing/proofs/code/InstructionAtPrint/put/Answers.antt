@@ -3,7 +3,7 @@ use Rattle.std.specs.Option.{option_map_or}
 use Rattle.insn.specs.Instructions.{Instruction}
 use Rattle.insn.specs.CodeResults.{code_result}
 use Rattle.insn.specs.Views.{view}
-use Rattle.printing.specs.Classes.{line_at}
+use Rattle.printing.specs.CodeLines.{line_at}
 use Rattle.printing.specs.Instructions.{instruction_line}
 use Rattle.printing.specs.Writing.{Writes}
 use Rattle.printing.proofs.Steps.{is_list, is_fault}
@@ -26,6 +26,6 @@ returns-in-None g c =
     let self = c.args.self.now in
     let (xs, is) = is_list (code_result self.code.now) (sym c.code_fault.ensures ∙ c.in-None.is) in
     let line : Instruction → List ℕ = λ i. instruction_line (self.at, i) in
-    let text : option_map_or (λ i. line (view i)) c.found_at.result [] ≡ line_at (code_result self.code.now) self.at =
-    mapped line view c.found_at.result [] ∙ ap (λ o. option_map_or line o []) (c.found_at.ensures xs is) ∙ ap (λ r. line_at r self.at) (sym is) in
+    let text : option_map_or (λ i. line (view i)) c.find_instruction.result [] ≡ line_at (code_result self.code.now) self.at =
+    mapped line view c.find_instruction.result [] ∙ ap (λ o. option_map_or line o []) (c.find_instruction.ensures xs is) ∙ ap (λ r. line_at r self.at) (sym is) in
     subst (λ t. Writes (held c.args.out.now) (held c.put_found.new.out) t c.put_found.result) text c.put_found.ensures

@@ -4,7 +4,7 @@ use Rattle.frames.specs.VerificationType.{type_of}
 use Rattle.printing.specs.Writing.{Writes}
 use Rattle.printing.specs.Frames.{type_text, in_use, type_strings, flag_fields}
 use Rattle.printing.specs.Json.{strings, fields_then}
-use Rattle.printing.specs.declared.within.Within.TheVariants.{Json}
+use Rattle.printing.specs.declared.names_in.Within.TheVariants.{Json}
 use Rattle.printing.proofs.Fields.{of_views}
 use Rattle.printing.proofs.frame.FrameFieldsPrint.put.Goals as goal
 

@@ -3,7 +3,7 @@ use Rattle.std.specs.Prelude.{ℕ, codes}
 use Rattle.std.specs.List.{flat_map}
 use Rattle.frames.specs.VerificationType.{type_of}
 use Rattle.printing.specs.Writing.{Writes, AppendsFront}
-use Rattle.printing.specs.declared.within.Within.TheVariants.{Words}
+use Rattle.printing.specs.declared.names_in.Within.TheVariants.{Words}
 use Rattle.printing.specs.Frames.{type_text, more_text}
 use Rattle.printing.proofs.Writings.{then_writes, front_of_more}
 use Rattle.printing.proofs.Frames.{row_text}

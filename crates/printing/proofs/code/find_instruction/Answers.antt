@@ -4,7 +4,7 @@ use Rattle.insn.specs.Offsets.{at_offset}
 use Rattle.insn.specs.Views.{located}
 use Rattle.insn.proofs.CodeResults.{reading_at, whole_reading}
 use Rattle.printing.proofs.Steps.{step_is, fault_here, end_is, left_behind, no_list, nothing_left, here_found, here_passed}
-use Rattle.printing.proofs.code.found_at.Goals as goal
+use Rattle.printing.proofs.code.find_instruction.Goals as goal
 
 pub loop-step-init : goal.loop-step-init
 loop-step-init c = λ xs is. (

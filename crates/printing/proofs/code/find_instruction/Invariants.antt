@@ -4,7 +4,7 @@ use Rattle.insn.specs.Instructions.{Instruction}
 use Rattle.insn.specs.Offsets.{at_offset}
 use Rattle.insn.specs.CodeResults.{code_result}
 use Rattle.insn.proofs.CodeResults.{reading_at}
-use Rattle.printing.proofs.code.found_at.Given as goal
+use Rattle.printing.proofs.code.find_instruction.Given as goal
 
 abbrev pub invariant-loop-step : goal.invariant-loop-step
 invariant-loop-step l =
