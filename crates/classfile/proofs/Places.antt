@@ -1,4 +1,4 @@
--- The rule that is told of each place of a class file.
+-- The rule that is reported at each place of a class file.
 use Rattle.std.proofs.Common.{◌≡◌, ◌<◌, ◌≤◌, ◌+◌, ℕ, zero, suc, Bool, List, [], ◌∷◌, ◌++◌, length, inl, inr, below_more, slice_index_or, take, map, Option, Some, None, refl, sym, ap, ◌∙◌, arith, add-one, option_map}
 use Rattle.std.proofs.lemmas.List.{take_more}
 use Rattle.std.proofs.lemmas.Option.{slice_get-map, slice_get-get_or, slice_get_within, get_or_from_slice_get, slice_get_cases}

@@ -35,7 +35,7 @@ conditions_at c places.Class = class_conditions c
 conditions_at c (places.Field n) = option_map_or (conditions_of_field c n) (slice_get c.fields n) []
 conditions_at c (places.Method n) = option_map_or (conditions_of_method c n) (slice_get c.methods n) []
 
--- the rule that is told of a place
+-- the rule that is reported at a place
 unfoldable pub fault_at : Class → Place → Option FormRule
 fault_at c place = broken_rule (conditions_at c place)
 
@@ -69,7 +69,7 @@ form_fault_place (Broken rule place) = Some place
 
 -- ---- steps
 
--- of the places of one kind, by their numbers, none has a fault; or the first that has one is told; or memory ran out
+-- of the places of one kind, by their numbers, none has a fault; or the first that has one is reported; or memory ran out
 abbrev pub Passes : Class → (ℕ → Place) → Result (Unit {0}) FormFault → Type 0
 Passes c place (Ok done) = (n : ℕ) → fault_at c (place n) ≡ None
 Passes c place (Err OutOfMemory) = Unit {0}

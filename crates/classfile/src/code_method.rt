@@ -102,7 +102,7 @@ impl<'c, 'a> Formed<'c, 'a> {
             ≡ code_at (class_view self.entry.class.now) number }
         // It is the method of that number of this class, and is judged as the class is.
         ensures here { IfSome result (λ m. IsAt self.entry number m) }
-        // So what the class file says of the method is what is answered, whatever its code says.
+        // So what the class file says of the method is what is returned, whatever its code says.
         ensures told { TellsMethod (judged_class self.entry) number result }
     {
         let class = self.class();

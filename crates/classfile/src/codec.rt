@@ -24,9 +24,9 @@ use std::alloc::Global;
 /// 14 at 0 for more than 16,777,216 bytes, before anything is read, and 16 for a pool without a count;
 /// or 1 where memory runs out.
 pub fn decode(alloc: Global, bytes: &[u8]) -> Result<ClassFile<'_>, ReadFault>
-    // The bytes spell the class that is answered.
+    // The bytes spell the class that is returned.
     ensures found { IfOk result (λ c. IsClass bytes.now (class_view c)) }
-    // A class that the bytes spell is answered, unless memory runs out.
+    // A class that the bytes spell is returned, unless memory runs out.
     ensures only { (c : Class) → IsClass bytes.now c → IfErr result (λ e. e ≡ OutOfMemory) }
     // Which fault it is.
     ensures fault { IfErr result (λ e. UnlessMemory e (ClassFault bytes.now e)) }
@@ -64,7 +64,7 @@ fn written(alloc: Global, class: &ClassFile<'_>) -> Result<Vec<u8>, WriteFault>
 /// 17 where a count or a length passes its field or the parts have more than 16,777,216 bytes, and otherwise 18
 /// where no bytes spell the class, as where a raw attribute would be read by field; or 1 where memory runs out.
 pub fn encode(alloc: Global, class: &ClassFile<'_>) -> Result<Vec<u8>, WriteFault>
-    // The bytes that are answered spell the class; and which refusal it is.
+    // The bytes that are returned spell the class; and which refusal it is.
     ensures exact { Encodes (class_view class.now) (λ v. v.items) result }
     // A class that has a spelling is written, unless memory runs out.
     ensures only { (bytes : List ℕ) → AreBytes bytes → IsClass bytes (class_view class.now)

@@ -140,7 +140,7 @@ fn attributes(
     Ok(())
 }
 
-/// Searches the place in front of the attributes of a field or a method, and answers how many it has.
+/// Searches the place in front of the attributes of a field or a method, and returns how many it has.
 fn in_front(cursor: &mut Cursor<'_>, at: usize, part: FilePart) -> Result<u16, Option<FilePart>>
     ensures { Searches (search_in at (Some part) member_head cursor.old) cursor.new result }
 {
@@ -194,7 +194,7 @@ fn pool(cursor: &mut Cursor<'_>, at: usize) -> Result<(), Option<FilePart>>
     constants(cursor, at, count.saturating_sub(1))
 }
 
-/// Searches the place between the pool and the fields, and answers how many of these there are.
+/// Searches the place between the pool and the fields, and returns how many of these there are.
 fn in_between(cursor: &mut Cursor<'_>, at: usize) -> Result<u16, Option<FilePart>>
     ensures { Searches (search_in at None between cursor.old) cursor.new result }
 {

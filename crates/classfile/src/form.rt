@@ -144,7 +144,7 @@ pub fn form_check<'c, 'a>(
     ensures formed { IfOk result (λ _. WellFormed (class_view class.now)) }
     // Its methods are judged by the default profile.
     ensures default { IfOk result (λ f. f.dynamic ≡ false) }
-    // A class that is well formed is answered, unless memory runs out.
+    // A class that is well formed is returned, unless memory runs out.
     ensures only { WellFormed (class_view class.now) → IfErr result (λ e. e ≡ OutOfMemory) }
     // Which fault it is.
     ensures fault { IfErr result (TellsFirst (class_view class.now)) }

@@ -1,4 +1,4 @@
-//! Laws that follow of the definitions alone, whatever the code does: of the layout of class files, and of well-formed
+//! Laws that follow from the definitions alone, whatever the code does: of the layout of class files, and of well-formed
 //! classes.
 ghost use Rattle.std.specs.Prelude.{◌≡◌, ℕ, List, Some};
 ghost use Rattle.classfile.specs.OutlineLaws.{ClassIsOutline, OneOutline, OutlineOrFault, NoFaultBehindOutline};

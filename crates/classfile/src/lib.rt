@@ -1,10 +1,10 @@
 //! Class files (JVMS chapter 4): the bytes of a class as a value, and back.
 //!
 //! Reading and writing are proved against one layout, the relation `IsClass` of `specs/ClassFile.antt`:
-//! [`decode`] answers a class exactly where the bytes spell one, and otherwise the first fault in the
-//! file's order; [`encode`] answers the one spelling, exactly where there is one.
+//! [`decode`] returns a class exactly where the bytes spell one, and otherwise the first fault in the
+//! file's order; [`encode`] returns the one spelling, exactly where there is one.
 //!
-//! [`form_check`] answers a [`Formed`] exactly where a class is well formed (`specs/WellFormed.antt`), and otherwise
+//! [`form_check`] returns a [`Formed`] exactly where a class is well formed (`specs/WellFormed.antt`), and otherwise
 //! the first place at which a rule is broken, with the least number.
 //!
 //! | File | What it holds |

@@ -35,7 +35,7 @@ pub fn read_class<R: Read>(alloc: Global, reader: &mut R) -> Result<Vec<u8>, Cut
     ensures room { MatchResult result (λ v. vec_capacity v ≤ length v.items + 8192)
         (λ e. vec_capacity e.bytes ≤ length e.bytes.items + 8192) }
     // These bytes were taken, and why no more. Which fault it is of what the reader gives, where that is known; so an
-    // outline in front of it is answered unless it is lost.
+    // outline in front of it is returned unless it is lost.
     ensures fault { IfErr result (λ e. IfSome (R.remaining reader.old)
         (λ stream. IsLostOr (OutlineFault stream) e.why)) }
     ensures stopped { IfErr result (λ e. Stopped (R.remaining reader.old) (R.remaining reader.new) e.bytes.items

@@ -131,7 +131,7 @@ fn interfaces(cursor: &mut Cursor<'_>) -> Result<(), ReadFault>
     numbers(cursor, count)
 }
 
-/// Reads past what stands between the pool and the fields, and answers the number of these.
+/// Reads past what stands between the pool and the fields, and returns the number of these.
 #[tactic(auto, using(crate::proofs::Steps::steps), unfolding(crate::specs::FileParts::between))]
 pub fn between(cursor: &mut Cursor<'_>) -> Result<u16, ReadFault>
     ensures { Skips between cursor.old cursor.new result }
@@ -141,7 +141,7 @@ pub fn between(cursor: &mut Cursor<'_>) -> Result<u16, ReadFault>
     cursor.u2()
 }
 
-/// Reads past what stands in front of the attributes of a field or a method, and answers the number of these.
+/// Reads past what stands in front of the attributes of a field or a method, and returns the number of these.
 #[tactic(auto, using(crate::proofs::Steps::steps), unfolding(crate::specs::FileParts::member_head))]
 pub fn member_head(cursor: &mut Cursor<'_>) -> Result<u16, ReadFault>
     ensures { Skips member_head cursor.old cursor.new result }

@@ -89,7 +89,7 @@ fn a_class_both_ways(rt: HostRuntime) {
     assert!(rt; is_read(rt.alloc(), false));
 }
 
-/// Where memory runs out each call answers 1, and otherwise as ever.
+/// Where memory runs out each call returns 1, and otherwise as ever.
 #[test]
 fn memory_runs_out(rt: HostRuntime) {
     assert!(rt; is_read(rt.alloc(), true));
@@ -184,7 +184,7 @@ fn a_record_both_ways(rt: HostRuntime) {
     assert!(rt; is_record_read(rt.alloc(), false));
 }
 
-/// Where memory runs out each call answers 1, and otherwise as ever.
+/// Where memory runs out each call returns 1, and otherwise as ever.
 #[test]
 fn memory_runs_out_in_a_record(rt: HostRuntime) {
     assert!(rt; is_record_read(rt.alloc(), true));

@@ -178,13 +178,13 @@ fn instructions_by_where_they_begin(rt: HostRuntime) {
 #[test]
 fn plain_instructions_are_skipped(rt: HostRuntime) {
     let mut code = Instructions::new(&[0x03, 0x15, 1, 0xBB, 0, 2]);
-    assert!(rt; code.skip_plain());
+    assert!(rt; code.skip_unconstrained());
     assert!(rt; code.at() == 1);
-    assert!(rt; code.skip_plain());
+    assert!(rt; code.skip_unconstrained());
     assert!(rt; code.at() == 3);
-    assert!(rt; !code.skip_plain());
+    assert!(rt; !code.skip_unconstrained());
     assert!(rt; code.at() == 3);
-    assert!(rt; !Instructions::new(&[0x11, 0]).skip_plain());
+    assert!(rt; !Instructions::new(&[0x11, 0]).skip_unconstrained());
 }
 
 /// True where `Debug` writes the value as this text, or memory ran out.

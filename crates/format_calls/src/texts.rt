@@ -272,7 +272,7 @@ fn numbers(rt: HostRuntime) {
     }
 }
 
-/// Each call that takes memory answers 1 where there is none, and as ever otherwise.
+/// Each call that takes memory returns 1 where there is none, and as ever otherwise.
 #[test]
 fn want_of_memory(rt: HostRuntime) {
     assert!(rt; is_text(rt.alloc(), true));

@@ -1,4 +1,4 @@
--- Refusing conditions: each with its reason, of which the least that holds is told.
+-- Refusing conditions: each with its reason, of which the least that holds is reported.
 use Rattle.std.specs.Prelude.{◌≡◌, ℕ, Bool, true, false, nat_lt, if◌then◌else◌, List, [], ◌∷◌, Option, Some, None}
 use Rattle.hierarchy.specs.Answer.{Outcome, yes, no, missing}
 

@@ -1,5 +1,5 @@
 -- The reasons by which an entry of a stack map is refused (JVMS 4.7.4, 4.10.1): each name stands for the number by
--- which the reason is told.
+-- which the reason is reported.
 use Rattle.std.specs.Prelude.{ℕ}
 use Rattle.frames.specs.declared.frame_fault.FrameFault.{FrameFault}
 use Rattle.frames.specs.declared.frame_fault.FrameFault.TheVariants.{OutOfMemory, BadIndex, WrongKind, LocalsOver, StackOver, ChopTooMany, NotAStart, NotANew}

@@ -105,7 +105,7 @@ fn mark_starts(code: &[u8], marks: &mut [StartKind]) -> Result<(), CodeFault>
     let mut instructions = Instructions::new(code);
     loop {
         let at = instructions.at();
-        if instructions.skip_plain() {
+        if instructions.skip_unconstrained() {
             marks[at] = mark_of(None);
             continue;
         }

@@ -213,7 +213,7 @@ impl<'a> Part<'a> for StackMap<'a> {
 pub fn read_map<'a>(alloc: Global, body: &'a [u8]) -> Result<StackMap<'a>, ReadFault>
     // The answer is spelled by the body.
     ensures found { IfOk result (λ m. IsMap body.now m) }
-    // The map that the body spells is answered, unless memory runs out.
+    // The map that the body spells is returned, unless memory runs out.
     ensures only { (es : List maps.MapEntry) → IsMap body.now es → IfErr result (λ e. e ≡ OutOfMemory) }
     // Which fault it is.
     ensures fault { IfErr result (λ e. UnlessMemory e (MapFault body.now e)) }

@@ -1,4 +1,4 @@
--- Which fault of a list of classes is answered: that of the first rule that the list breaks, in the order of their
+-- Which fault of a list of classes is returned: that of the first rule that the list breaks, in the order of their
 -- numbers, with the name of the first class that breaks it, in the list's order. No section of the standard numbers
 -- these faults.
 use Rattle.std.specs.Prelude.{◌≡◌, ◌≢◌, ◌↔◌, ℕ, ◌≤◌, ◌<◌, List, Option, Some, None, length}

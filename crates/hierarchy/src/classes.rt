@@ -37,13 +37,13 @@ pub trait Classes {
     fn is_subclass<'n>(&self, a: &'n [u8], b: &'n [u8]) -> Answer<'n>
         ensures { SubclassAnswer (content self.now) a.now b.now (outcome_of result) };
 
-    /// Whether the class at a place is an interface. No clause says what is answered for a place of no class.
+    /// Whether the class at a place is an interface. No clause says what is returned for a place of no class.
     fn is_interface_at(&self, place: u16) -> bool
         ensures { (name : List ℕ) → place_in (content self.now) name ≡ Some place
             → interface_of (content self.now) name ≡ Some result };
 
     /// Whether the class at the place `a` is that at the place `b` or stands below it: the answer of
-    /// [`Classes::is_subclass`] for their names. No clause says what is answered for a place of no class.
+    /// [`Classes::is_subclass`] for their names. No clause says what is returned for a place of no class.
     fn is_below(&self, a: u16, b: u16) -> bool
         ensures { (x y : List ℕ) → place_in (content self.now) x ≡ Some a → place_in (content self.now) y ≡ Some b
             → SubclassAnswer (content self.now) x y (yes_if result) };

@@ -13,7 +13,7 @@ pub data Format (V : Type 0) : Type 0 where
   done : V → Format V
   -- this many bytes, and what follows them
   part : ℕ → (List ℕ → Format V) → Format V
-  -- a rule is broken; the fault is told where the next part would begin
+  -- a rule is broken; the fault is reported where the next part would begin
   refuse : (ℕ → ReadFault) → Format V
 
 -- The bytes spell the value: they are its parts one behind the other.

@@ -1,4 +1,4 @@
--- Words of the code's own steps: nothing that a reader must believe rests on them. Reading answers a value exactly
+-- Words of the code's own steps: nothing that a reader must believe rests on them. Reading returns a value exactly
 -- where bytes in front spell it, and otherwise the first fault; then lemmas for lists of parts, bodies of attributes
 -- and numbers.
 use Rattle.std.proofs.Common.{◌≡◌, ℕ, ◌+◌, ◌-◌, ◌*◌, ◌^◌, ◌/◌, ◌%◌, ◌<◌, ◌≤◌, Bool, true, false, cond, ltb, eqb, suc, List, [], ◌∷◌, ◌++◌, length, take, drop, Result, Ok, Err, refl, sym, ap, subst, ◌∙◌, append_assoc, arith, inl, inr, ◌⊎◌}

@@ -472,7 +472,7 @@ lengthened_err p w a mark e begun body =
         by_room false h = h
     by_test false h = refl
 
--- ---- what writing answers
+-- ---- what writing returns
 
 pub record WrittenAll (p : List Piece) (w b : Written) : Type 0 where
   pub none_over : has_over p ≡ false

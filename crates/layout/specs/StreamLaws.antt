@@ -1,5 +1,5 @@
 -- Words of the code's own steps: nothing that a reader must believe rests on them. One step of reading from a stream
--- behind another, then what follows of `Leads` for every format.
+-- behind another, then what follows from `Leads` for every format.
 use Rattle.std.proofs.Common.{◌≡◌, ℕ, ◌+◌, ◌≤◌, ◌<◌, List, [], ◌++◌, length, Result, Ok, Err, Option, refl, sym, ap, subst, ◌∙◌, append_assoc, arith, inl, inr, ◌⊎◌}
 use Rattle.std.proofs.Common.{Bool, true, false, ltb, take, drop}
 use Rattle.std.proofs.lemmas.Bool.{ltb-true, ltb-false}
@@ -160,7 +160,7 @@ part_stops n k left old mid new given before now after e le held consumed sum so
         rw is (length old, short)
     stops w (inr (is, few)) = let short = led (omega (arith, few, small)) in rw is (refl, length old, short)
 
--- ---- what follows of `Leads`
+-- ---- what follows from `Leads`
 
 -- bytes that lead to the end are a spelling within the limit
 pub leads_spells : {V : Type 0} (f : Format V) (at : ℕ) (given : List ℕ) (v : V) → Leads f at given (whole v)

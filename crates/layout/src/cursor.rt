@@ -72,7 +72,7 @@ impl<'a> Cursor<'a> {
         }
     }
 
-    /// Takes the next `n` bytes, or answers 2 `EndsEarly` at this place where fewer are left.
+    /// Takes the next `n` bytes, or returns 2 `EndsEarly` at this place where fewer are left.
     pub fn part(&mut self, n: usize) -> Result<&'a [u8], ReadFault>
         ensures { Reads (part n done) (λ bytes. bytes.now) self.old self.new result }
     {
@@ -85,7 +85,7 @@ impl<'a> Cursor<'a> {
         Ok(front)
     }
 
-    /// Takes a number of one byte, or answers 2 `EndsEarly` at this place.
+    /// Takes a number of one byte, or returns 2 `EndsEarly` at this place.
     pub fn u1(&mut self) -> Result<u8, ReadFault>
         ensures { Reads (number 1) (λ n. n) self.old self.new result }
     {
@@ -93,7 +93,7 @@ impl<'a> Cursor<'a> {
         Ok(front[0])
     }
 
-    /// Takes a number of two bytes, the high byte first, or answers 2 `EndsEarly` at this place.
+    /// Takes a number of two bytes, the high byte first, or returns 2 `EndsEarly` at this place.
     pub fn u2(&mut self) -> Result<u16, ReadFault>
         ensures { Reads (number 2) (λ n. n) self.old self.new result }
     {
@@ -101,7 +101,7 @@ impl<'a> Cursor<'a> {
         Ok(BigEndian::read_u16(front))
     }
 
-    /// Takes a number of four bytes, the highest byte first, or answers 2 `EndsEarly` at this
+    /// Takes a number of four bytes, the highest byte first, or returns 2 `EndsEarly` at this
     /// place.
     pub fn u4(&mut self) -> Result<u32, ReadFault>
         ensures { Reads (number 4) (λ n. n) self.old self.new result }

@@ -13,8 +13,8 @@ ghost use Rattle.layout.specs.declared.fault.WriteFault.{WriteFault};
 ghost use Rattle.layout.specs.declared.limits.TheConstants.{MAX_CLASS_BYTES};
 ghost use Rattle.layout.specs.declared.fault.WriteFault.TheVariants.{DoesNotFit};
 
-/// Reading by a format answers a value exactly where bytes in front spell it, and then it takes
-/// exactly these; otherwise it answers the first fault.
+/// Reading by a format returns a value exactly where bytes in front spell it, and then it takes
+/// exactly these; otherwise it returns the first fault.
 pub fn reading_is_spelling<V>()
     ensures found { (f : Format V) (at : ℕ) (bytes : List ℕ) (x : V × Place)
         → reads f at bytes ≡ Ok x

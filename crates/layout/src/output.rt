@@ -43,7 +43,7 @@ impl Output {
         }
     }
 
-    /// Writes these bytes, or answers 17 where there is no room for them, or 1.
+    /// Writes these bytes, or returns 17 where there is no room for them, or 1.
     pub fn put_bytes(&mut self, bytes: &[u8]) -> Result<(), WriteFault>
         ensures { Goes (plain bytes.now ∷ []) self.old self.new result }
     {
@@ -85,7 +85,7 @@ impl Output {
         self.put_bytes(&bytes)
     }
 
-    /// Writes a count as a number of two bytes, or answers 17 where it is over 65,535, or there is
+    /// Writes a count as a number of two bytes, or returns 17 where it is over 65,535, or there is
     /// no room; or 1.
     #[tactic(auto, unfolding(crate::specs::Pieces::field))]
     pub fn put_count(&mut self, n: usize) -> Result<(), WriteFault>
@@ -104,7 +104,7 @@ impl Output {
         self.wrong = true;
     }
 
-    /// Leaves four bytes for a length, and answers the mark by which [`end`](Output::end) fills it
+    /// Leaves four bytes for a length, and returns the mark by which [`end`](Output::end) fills it
     /// in; or 17 where there is no room, or 1.
     pub fn begin(&mut self) -> Result<usize, WriteFault>
         ensures { MatchResult result
@@ -116,7 +116,7 @@ impl Output {
         Ok(mark)
     }
 
-    /// Fills in, at the mark, the length of what was written behind its four bytes, or answers 17
+    /// Fills in, at the mark, the length of what was written behind its four bytes, or returns 17
     /// where the length has no four bytes.
     pub fn end(&mut self, mark: usize) -> Result<(), WriteFault>
         requires { mark + 4 ≤ length self.now.bytes }

@@ -34,7 +34,7 @@ pub trait Part<'a>: Sized {
     // Which bytes spell a value, part by part.
     ghost format: { Format View };
 
-    /// Takes the value that the bytes in front spell, and exactly these bytes, or answers the first
+    /// Takes the value that the bytes in front spell, and exactly these bytes, or returns the first
     /// fault, or 1; an error leaves the cursor as it was.
     fn take(alloc: Global, cursor: &mut Cursor<'a>) -> Result<Self, ReadFault>
         ensures { ReadsUnlessMemory format view cursor.old cursor.new result };
@@ -42,7 +42,7 @@ pub trait Part<'a>: Sized {
     // The pieces that a value is written as.
     ghost pieces: { View → List Piece };
 
-    /// Appends the value's spelling, or answers 17 where it is too large and otherwise 18 where it
+    /// Appends the value's spelling, or returns 17 where it is too large and otherwise 18 where it
     /// has none, or 1; an error leaves the vector as it was.
     fn put(&self, out: &mut Vec<u8>) -> Result<(), WriteFault>
         ensures { Puts (pieces (view self.now)) out.old.items out.new.items result };

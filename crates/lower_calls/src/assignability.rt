@@ -19,7 +19,7 @@ fn laws_are_called() {
 
 const I: VType<'static> = VType::Class(b"I");
 
-/// A type, where another is wanted, and what is answered.
+/// A type, where another is wanted, and the answer.
 fn class_rows<'a>() -> [(VType<'a>, VType<'a>, Answer<'a>); 7] {
     [
         (A, I, Answer::Yes),
@@ -32,7 +32,7 @@ fn class_rows<'a>() -> [(VType<'a>, VType<'a>, Answer<'a>); 7] {
     ]
 }
 
-/// Types of arrays, and what is answered of them.
+/// Types of arrays, and the answers.
 fn array_rows<'a>() -> [(VType<'a>, VType<'a>, Answer<'a>); 4] {
     let objects = array(1, Base::Class(OBJECT));
     let bs = array(1, Base::Class(b"B"));
@@ -63,7 +63,7 @@ fn types(rt: HostRuntime) {
     }
 }
 
-/// The types of a frame's local variables or stack, those of a wanted one, and what is answered.
+/// The types of a frame's local variables or stack, those of a wanted one, and the answer.
 type Row<'s, 'a> = (&'s [VType<'a>], &'s [VType<'a>], Answer<'a>);
 
 /// True where this is the answer on two frames, of which the second is wanted, or memory ran out.

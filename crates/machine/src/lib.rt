@@ -31,7 +31,7 @@
 //! - `specs/RunBreadth.antt`: laws of initial states and runs.
 //! - `specs/ByAct.antt`, `specs/ByType.antt`: the words in which laws speak.
 //! - `specs/Views.antt`, `specs/Bodies.antt`: what the program's values stand for.
-//! - `specs/Stepped.antt`: what `step` answers.
+//! - `specs/Stepped.antt`: what `step` returns.
 //! - `specs/private/`: words of the code's own steps; nothing that a reader must believe rests on them.
 #![tactic(auto)]
 

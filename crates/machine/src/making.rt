@@ -100,7 +100,7 @@ impl<'c, 'a> Method<'c, 'a> {
         ensures code { IfOk result (λ m. code_at (class_view formed.now.class.now) number
             ≡ Some (code_view m.declared.code.now)) }
         ensures list { IfOk result (λ m. SpellsCode 0 m.declared.code.now.code.now (views m.list.items)) }
-        // Where its code is some instructions, it is answered, unless memory runs out.
+        // Where its code is some instructions, it is returned, unless memory runs out.
         ensures only { (body : CodeBody) (xs : List (ℕ × Instruction))
             → code_at (class_view formed.now.class.now) number ≡ Some body → SpellsCode 0 body.code xs
             → IfErr result (λ e. e ≡ OutOfMemory) }

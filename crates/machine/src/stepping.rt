@@ -59,8 +59,8 @@ pub(crate) fn advance<'a, C: Classes>(
 /// A step of the machine (JVMS 2.10, 2.11, 6.5) from a state, by a choice, in the world that has these classes and no
 /// other.
 ///
-/// `Fault` is answered exactly where the state does not meet the demands of its instruction, whatever the choice.
-/// Elsewhere `Next` or `Ended` is what comes of the choice, and 54 says that nothing does. 1 may be answered in place
+/// `Fault` is returned exactly where the state does not meet the demands of its instruction, whatever the choice.
+/// Elsewhere `Next` or `Ended` is what comes of the choice, and 54 says that nothing does. 1 may be returned in place
 /// of any other answer. The state stays as it is, and is copied, all its objects with it.
 pub fn step<'a, C: Classes>(
     alloc: Global,

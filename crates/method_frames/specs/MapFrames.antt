@@ -24,7 +24,7 @@ pub record AreMore (old new : NumberedFrames) : Type 0 where
 abbrev pub frames_by : Numbering → List (ℕ × NumberedFrame) → List (ℕ × FrameFact)
 frames_by s frames = map (λ x. (x.0, frame_by s x.1)) frames
 
--- the frames are declared, or the reason against the first entry that is refused is told
+-- the frames are declared, or the reason against the first entry that is refused is reported
 abbrev pub AreDeclared : {A : Type 0} → Result (List (ℕ × FrameFact)) Reason → List (ℕ × FrameFact)
     → Result A RefusedEntry → Type 0
 AreDeclared answer frames (Ok u) = answer ≡ Ok frames

@@ -26,7 +26,7 @@ pub record BehindTypes (bytes rest : List ℕ) : Type 0 where
   pub types : List FieldDescriptor
   pub so_far : SoFar bytes rest types
 
--- ---- what is answered
+-- ---- what is returned
 
 pub answer_outside : (bytes stop : List ℕ) → read_method bytes ≡ outside stop → result_answer bytes ≡ None
 unfolding result_answer

@@ -1,4 +1,4 @@
--- The number by which each fault is told to users.
+-- The number by which each fault is reported to users.
 use Rattle.std.specs.Prelude.{ℕ}
 use Rattle.pool.specs.declared.fault.PoolFault.{PoolFault}
 use Rattle.pool.specs.declared.fault.PoolFault.TheVariants.{BadIndex, WrongKind}

@@ -12,7 +12,7 @@ use layout::{Cursor, ReadFault};
 use names::{NameFault, check_text};
 use std::alloc::Global;
 
-/// Takes a pool: its count and its entries, or answers the first fault as `Pool` does, or 1. After
+/// Takes a pool: its count and its entries, or returns the first fault as `Pool` does, or 1. After
 /// an error the cursor stands somewhere in between; [`Part::take`](layout::Part::take) leaves it as
 /// it was.
 #[tactic(auto, unfolding(crate::specs::Entries::pool))]

@@ -232,7 +232,7 @@ fn ways(rt: HostRuntime) {
     assert!(rt; has_ways(rt.alloc()));
 }
 
-/// With memory enough no instruction is answered that it ran out, whatever else.
+/// With memory enough no answer says that it ran out.
 #[test]
 fn each_rule_answers(rt: HostRuntime) {
     for code in [0x00, 0x03, 0x09, 0x1B, 0x57, 0x5C, 0x79, 0xAC] {

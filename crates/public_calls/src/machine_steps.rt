@@ -227,7 +227,7 @@ fn exceptions_are_caught_or_not(rt: HostRuntime) {
     assert!(rt; is_uncaught(rt.alloc()));
 }
 
-/// With memory enough no instruction is answered that it ran out, whatever else.
+/// With memory enough no answer says that it ran out.
 #[test]
 fn each_step_answers(rt: HostRuntime) {
     let on = go(rt.alloc(), None, None);
@@ -253,7 +253,7 @@ fn steps_or_memory(alloc: Global) -> bool {
     is_next_or_memory(stepped)
 }
 
-/// Where memory runs out a step answers 1, and otherwise the next state.
+/// Where memory runs out a step returns 1, and otherwise the next state.
 #[test]
 fn memory_runs_out_for_a_step(rt: HostRuntime) {
     assert!(rt; steps_or_memory(rt.alloc()));

@@ -9,7 +9,7 @@ use std::test::*;
 
 /// The class file of a class K whose static method `f`, of no parameters and no result, has two local variables, room
 /// for four units on the stack and six bytes of code. Its constants 11, 15, 18 and 19 are the field `g` of type K, the
-/// methods `h` and `<init>`, and `h` as an interface's method; `h` has one `int` and answers a K. 20 is a string, 21
+/// methods `h` and `<init>`, and `h` as an interface's method; `h` has one `int` and returns a K. 20 is a string, 21
 /// the arrays of K.
 const NAMING: [u8; 190] = [
     0xCA, 0xFE, 0xBA, 0xBE, 0, 0, 0, 0x34, 0, 0x17, 7, 0, 2, 1, 0, 1, 0x4B, 7, 0, 4, 1, 0, 0x10,
@@ -286,7 +286,7 @@ fn monitors_and_ends(rt: HostRuntime) {
     assert!(rt; faults(alloc, [0xB0, 0, 0, 0, 0], &[READY]));
 }
 
-/// With memory enough no instruction is answered that it ran out, whatever else.
+/// With memory enough no answer says that it ran out.
 #[test]
 fn each_step_answers(rt: HostRuntime) {
     for code in [

@@ -195,7 +195,7 @@ fn is_written_and_reported(alloc: Global, bytes: &[u8]) -> bool {
     }
 }
 
-/// With memory enough no class is answered that it ran out.
+/// With memory enough no answer says that it ran out.
 #[test]
 fn each_class_is_reported(rt: HostRuntime) {
     assert!(rt; is_written_and_reported(rt.alloc(), &catching([0x03, 0xAC])));

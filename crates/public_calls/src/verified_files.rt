@@ -128,7 +128,7 @@ fn files_in_play(rt: HostRuntime) {
     assert!(rt; together(alloc, &[object, FileRead::Bytes(&falls)]) == Err((2, 84)));
 }
 
-/// Where memory runs out each answers 1, and otherwise as ever.
+/// Where memory runs out each returns 1, and otherwise as ever.
 #[test]
 fn memory_runs_out_for_a_file(rt: HostRuntime) {
     let told = alone(rt.alloc(), FileRead::Bytes(&K));

@@ -193,7 +193,7 @@ fn fault_in_a_walk_and_none_in_the_method_mended(rt: HostRuntime) {
     assert!(rt; makes(alloc, &RETURNS_READY, RIGHT) == Ok((4, Stop::Ended)));
 }
 
-/// Where memory runs out a walk of a verified method answers 1, and otherwise its end.
+/// Where memory runs out a walk of a verified method returns 1, and otherwise its end.
 #[test]
 fn memory_runs_out_for_a_verified_walk(rt: HostRuntime) {
     let walked = makes(rt.alloc(), &RETURNS_READY, RIGHT);

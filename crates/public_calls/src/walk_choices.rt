@@ -61,7 +61,7 @@ fn answer<'a>(
     })
 }
 
-/// A call answers null and each object of its type, and may raise.
+/// A call returns null and each object of its type, and may raise.
 #[test]
 fn walks_by_what_a_call_answers(rt: HostRuntime) {
     let alloc = rt.alloc();

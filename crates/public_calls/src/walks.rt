@@ -223,7 +223,7 @@ fn beginnings_that_are_none(rt: HostRuntime) {
     assert!(rt; begun == Err(55));
 }
 
-/// Whether the one method of the class begins in the state that `initial` answers, and not one step further.
+/// Whether the one method of the class begins in the state that `initial` returns, and not one step further.
 fn begins_in<'a>(alloc: Global, formed: &Formed<'_, 'a>) -> Result<bool, u8> {
     let list = [object(alloc), summary(alloc, b"K", Some(OBJECT), false)];
     let Ok(classes) = Rows::new(alloc, &list, hasher()) else {
@@ -265,7 +265,7 @@ fn states_in_which_a_method_begins(rt: HostRuntime) {
     assert!(rt; begins(rt.alloc(), &CATCHING) == Ok(true));
 }
 
-/// Where memory runs out a walk answers 1, and otherwise its end.
+/// Where memory runs out a walk returns 1, and otherwise its end.
 #[test]
 fn memory_runs_out_for_a_walk(rt: HostRuntime) {
     let walked = goes(rt.alloc(), &catching([0x04, 0xB1]), 2);

@@ -78,7 +78,7 @@ pub first_refused : (reads : List Read) (cs : List Class) (i : ℕ) (read : Read
 first_refused reads cs i read fault le all formed here refused =
     record { read = read; here = here; refused = refused; earlier = earlier_formed reads i (take i cs) (front_formed reads cs i le all formed) }
 
--- ---- what is answered
+-- ---- what is returned
 
 pub not_together : (profile : Profile) (reads : List Read) (cs : List Class) (fault : TogetherFault) → AreFormed reads cs → HaveNone (map (judged profile) cs) fault
     → NotTogether profile reads fault

@@ -1,4 +1,4 @@
--- Files that are classes, one behind the other, and what is answered of them.
+-- Files that are classes, one behind the other, and the answers on them.
 use Rattle.std.proofs.Common.{◌≡◌, ℕ, Bool, true, false, zero, suc, ◌<◌, List, [], ◌∷◌, ◌++◌, map, take, Some, None, Result, Ok, Err, subst, arith}
 use Rattle.classfile.specs.declared.profile.Profile.{Profile}
 use Rattle.classfile.specs.CodeMethods.{judged}
@@ -59,7 +59,7 @@ earlier_formed (r ∷ reads) (suc i) [] all j lt other e = absurd all
 earlier_formed (r ∷ reads) (suc i) (c ∷ cs) all zero lt other e = (c, subst (λ x. IsFormed x c) (some_same r other e) all.0)
 earlier_formed (r ∷ reads) (suc i) (c ∷ cs) all (suc j) lt other e = earlier_formed reads i cs all.1 j (omega (arith, lt)) other e
 
--- ---- what is answered of them
+-- ---- the answers on them
 
 pub explains_formed : (framed : Bool) (c : JudgedClass) (known : List Read) (cs : List Class) (classes : List ClassFact) (r : Result Explained AmongFault)
     → AreFormed known cs → classes ≡ map summary_of (c.file ∷ cs) → ExplainsSummaries framed classes c r → ExplainsFormed framed c known r
@@ -85,7 +85,7 @@ among_formed framed profile read c known (Err amongs.FinalSuper) formed (cs, all
 pub without_frames : (profile : Profile) (read : Read) (known : List Read) (x : Explained) → AnswersAmong (IsExplained false) profile read known (Ok x) → ReportsAmong profile read known (Ok x.report)
 without_frames profile read known x (c, cs, formed, all, hierarchy, fine, p) = (c, cs, formed, all, hierarchy, fine, p.0)
 
--- a fault is one whatever is answered otherwise
+-- a fault is one whatever is returned otherwise
 pub same_fault : {R S : Type 0} (P : List ClassFact → JudgedClass → R → Type 0) (Q : List ClassFact → JudgedClass → S → Type 0) (profile : Profile) (read : Read) (known : List Read) (fault : AmongFault)
     → AnswersAmong P profile read known (Err fault) → AnswersAmong Q profile read known (Err fault)
 same_fault P Q profile read known amongs.OutOfMemory p = p

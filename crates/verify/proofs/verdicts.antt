@@ -1,4 +1,4 @@
--- The meaning of verdicts: what a method that is verified, or refused, is; how the pass finds it; and what is answered
+-- The meaning of verdicts: what a method that is verified, or refused, is; how the pass finds it; and what is returned
 -- of it.
 pub mod Passing
 pub mod Following

@@ -19,7 +19,7 @@ use Rattle.verify.specs.Explaining.{IsExplained}
 use Rattle.verify.specs.FinalSuper.{has_final_super}
 
 -- The first of these that applies: the class is refused; a known one is, by its number from 1 on, the first of those
--- that are; they are no hierarchy; the superclass of the class is final; and otherwise what is answered of the class in
+-- that are; they are no hierarchy; the superclass of the class is final; and otherwise what is returned of the class in
 -- the hierarchy, by a profile.
 abbrev pub AnswersAmong : {R : Type 0} → (List ClassFact → JudgedClass → R → Type 0) → Profile → Read → List Read
     → Result R AmongFault → Type 0

@@ -55,7 +55,7 @@ pub record IsSafeWalk (classes : List ClassFact) (c : JudgedClass) (number : ℕ
   pub reached : (m : Method Act) → IsMethod c number m → (t : State) → Reaches (world_of classes) m s choices t
       → IsNoFault (world_of classes) m t
 
--- ---- what is answered
+-- ---- what is returned
 
 -- why the method is not verified: it is not type-safe (56), or the hierarchy has not its class as it is (80); or memory
 -- ran out

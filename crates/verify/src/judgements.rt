@@ -33,7 +33,7 @@ pub enum Judgement<'a> {
     FinalSuper { name: &'a [u8] },
 }
 
-/// Why nothing is answered.
+/// Why nothing is returned.
 #[derive(Clone, Copy, Debug, Error)]
 pub enum EachFault<'a> {
     /// 1: memory ran out.

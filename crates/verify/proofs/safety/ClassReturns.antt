@@ -223,7 +223,7 @@ module _ (w : World) (types : Types) (a : Activation) where
   replies None answer below f = ([], (f, refl), ap (λ z. on_top z below) f)
   replies (Some t) answer below f = (f.0 ∷ [], (f.0, f.1, f.2, refl), ap (λ z. on_top z below) f.1)
 
-  -- a call that is answered, of a method that is no constructor
+  -- a call that returns, of a method that is no constructor
   abbrev Pushes : List Demand → Reply → List Value → Option Value → ℕ → List Value → Type 0
   Pushes demands reply receiver answer to below =
       (vs : List Value) × Replies w heap_now reply answer vs × (state_in types (resumed a false receiver below answer to) ≡ moved now to (vs ++ beneath demands a.stack))

@@ -1,4 +1,4 @@
--- Each method so far was answered, and where they are asked for, its frames were found.
+-- Each method so far has its verdict, and where they are asked for, its frames were found.
 use Rattle.std.proofs.Common.{◌≡◌, ℕ, true, length, Some}
 use Rattle.std.specs.Prelude.{slice_get}
 use Rattle.classfile.specs.CodeMethods.{judged_class}
