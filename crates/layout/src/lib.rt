@@ -6,7 +6,7 @@
 //!
 //! - `cursor`: bytes that are read from left to right
 //! - `fault`: why bytes are refused, why a value is not written, and the numbers of both
-//! - `laws`: laws of all formats and of what is written, without code
+//! - `laws`: laws of all formats and of what is written; its functions do nothing
 //! - `limits`: the most bytes of a class file and of code
 //! - `lists`: lists of parts, and the end of an attribute's body
 //! - `output`: bytes that are written part by part, up to the limit

@@ -10,7 +10,7 @@
 //! - `constant_types`: the types of a class, a field, a method, a computed constant or a call site, for instructions
 //! - `fault`: why a look-up fails
 //! - `kind`: the kinds of a method handle's reference
-//! - `laws`: what the look-ups find, by what stands where, without code
+//! - `laws`: what the look-ups find, by what stands where; its functions do nothing
 //! - `lookups`: what stands at an index, and to which texts it leads
 //! - `reading`: bytes to constants
 //! - `reference`: what a NameAndType, a Fieldref, a method's reference and an InvokeDynamic lead to
