@@ -37,6 +37,14 @@ impl<'n> AbsentNames<'n> {
         }
     }
 
+    /// Forgets all names.
+    pub fn clear(&mut self)
+        ensures { self.new ≡ [] }
+    {
+        self.names.clear();
+        self.places.clear();
+    }
+
     /// The place of a name, which is the next one if it was not met before. The only refusal is 1, where memory runs
     /// out; then no name is new.
     pub fn place(&mut self, name: &'n [u8]) -> Result<usize, AllocError>

@@ -4,7 +4,7 @@ ghost use Rattle.hierarchy.specs.Class.{ClassFact};
 ghost use Rattle.type_numbers.specs.private.RecentPlaces.{ArePlaces, IsPlace, KeptNames};
 
 /// How many names are kept at most.
-const COUNT: usize = 64;
+const COUNT: usize = 256;
 
 /// The places of some names among the classes of a hierarchy. Each name has one slot, which it shares with other names,
 /// and the slot keeps the one that was asked for last. So one comparison tells whether a name is kept.

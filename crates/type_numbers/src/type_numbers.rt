@@ -69,6 +69,16 @@ impl<'c, 'n, C: Classes> TypeNumbers<'c, 'n, C> {
         }
     }
 
+    /// No absent class has a number any more. The names in the hierarchy that have numbers are kept for the next class
+    /// that is judged.
+    pub fn restart(&mut self)
+        ensures classes { self.new.classes ≡ self.old.classes }
+        ensures absent { self.new.absent ≡ [] }
+        ensures present { self.new.present ≡ self.old.present }
+    {
+        self.absent.clear();
+    }
+
     /// The classes of the hierarchy.
     pub fn classes(&self) -> &'c C
         ensures { C.content result.now ≡ self.now.classes }
