@@ -175,15 +175,13 @@ impl Arena {
         number(&self.nodes, root, slot)
     }
 
-    /// Puts a number into a slot of the running row. A number that is there already takes no memory.
+    /// Puts a number into a slot of the running row.
     pub fn set(&mut self, slot: usize, number: u32) -> Result<(), AllocError>
         requires { slot < length self.old.running }
         ensures ok { OnOk result (self.new ≡ record self.old { running = slice_set self.old.running slot number }) }
         ensures err { OnErr result (self.new ≡ self.old) }
     {
-        if self.get(slot) != number {
-            self.root = put(&mut self.nodes, self.own, self.root, slot, number)?;
-        }
+        self.root = put(&mut self.nodes, self.own, self.root, slot, number)?;
         Ok(())
     }
 

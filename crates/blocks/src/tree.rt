@@ -1,5 +1,5 @@
 //! Nodes of trees, which rows share.
-ghost use Rattle.std.specs.Prelude.{◌≡◌, ◌≤◌, ◌<◌, ◌+◌, ◌*◌, ◌^◌, length, IfOk, OnErr, ◌∷◌, [], ◌++◌};
+ghost use Rattle.std.specs.Prelude.{◌≡◌, ◌≤◌, ◌<◌, ◌+◌, ◌*◌, ◌^◌, length, vec_len, vec_capacity, IfOk, OnOk, OnErr, ◌∷◌, [], ◌++◌};
 ghost use Rattle.blocks.specs.private.Blocks.{place_in};
 ghost use Rattle.blocks.specs.private.Trees.{IsForest, IsTree, IsCopy, Keeps, IsBelow, IsOwned, IsPut, level_of, number_at, block_at, width};
 
@@ -20,6 +20,15 @@ pub(crate) fn number(nodes: &[Node], id: u32, slot: usize) -> u32
     number(nodes, node.numbers[place_in(slot, node.level)], slot)
 }
 
+/// Makes room for one node more. It stands apart, so that what [`copy`] inlines stays small.
+#[inline(never)]
+fn make_room(nodes: &mut Vec<Node>) -> Result<(), AllocError>
+    ensures same { nodes.new.items ≡ nodes.old.items }
+    ensures room { OnOk result (vec_len nodes.new < vec_capacity nodes.new) }
+{
+    nodes.reserve(1)
+}
+
 /// A copy of a shared node, which the running row has alone.
 pub(crate) fn copy(nodes: &mut Vec<Node>, id: u32) -> Result<u32, AllocError>
     requires forest { IsForest nodes.old.items }
@@ -33,7 +42,10 @@ pub(crate) fn copy(nodes: &mut Vec<Node>, id: u32) -> Result<u32, AllocError>
     if copy == u32::MAX {
         return Err(AllocError);
     }
-    nodes.push(node)?;
+    if nodes.len() >= nodes.capacity() {
+        make_room(nodes)?;
+    }
+    nodes.push_reserved(node);
     Ok(copy)
 }
 
@@ -57,8 +69,8 @@ fn own_below(nodes: &mut Vec<Node>, own: u32, id: u32, place: usize) -> Result<u
     Ok(copy)
 }
 
-/// The block of a slot below a node that the running row has alone: it has it and all above it alone afterwards.
-fn own_block(nodes: &mut Vec<Node>, own: u32, id: u32, slot: usize) -> Result<u32, AllocError>
+/// The block of a slot, level by level, as [`own_block`] gives it.
+fn own_block_below(nodes: &mut Vec<Node>, own: u32, id: u32, slot: usize) -> Result<u32, AllocError>
     requires tree { IsTree nodes.old.items own }
     requires node { id < length nodes.old.items }
     requires alone { own ≤ id }
@@ -72,7 +84,24 @@ fn own_block(nodes: &mut Vec<Node>, own: u32, id: u32, slot: usize) -> Result<u3
         return Ok(id);
     }
     let below = own_below(nodes, own, id, place_in(slot, level))?;
-    own_block(nodes, own, below, slot)
+    own_block_below(nodes, own, below, slot)
+}
+
+/// The block of a slot below a node that the running row has alone: it has it and all above it alone afterwards.
+#[inline(always)]
+fn own_block(nodes: &mut Vec<Node>, own: u32, id: u32, slot: usize) -> Result<u32, AllocError>
+    requires tree { IsTree nodes.old.items own }
+    requires node { id < length nodes.old.items }
+    requires alone { own ≤ id }
+    ensures tree { IsTree nodes.new.items own }
+    ensures kept { Keeps nodes.old.items nodes.new.items (level_of nodes.old.items id) }
+    ensures ok { IfOk result (λ block. (own ≤ block)
+        × (block_at nodes.new.items (level_of nodes.old.items id) id slot ≡ block)) }
+{
+    if nodes[id as usize].level == 0 {
+        return Ok(id);
+    }
+    own_block_below(nodes, own, id, slot)
 }
 
 /// A node with what another holds, which the running row has alone.
@@ -86,6 +115,7 @@ fn owned(nodes: &mut Vec<Node>, own: u32, id: u32) -> Result<u32, AllocError>
 }
 
 /// Puts a number into a slot below a node, where no other row sees it. Returns the node that holds the outcome.
+#[inline(always)]
 pub(crate) fn put(
     nodes: &mut Vec<Node>,
     own: u32,

@@ -1,11 +1,11 @@
 -- The rows of a method, as they are known and as they change.
-use Rattle.std.proofs.Common.{◌≡◌, ◌∙◌, ℕ, ◌+◌, ◌<◌, List, [], ◌∷◌, ◌++◌, length, replicate, set, get_or, Result, Ok, Err, OnOk, OnErr, refl, sym, subst, inl, inr, arith}
+use Rattle.std.proofs.Common.{◌≡◌, ◌∙◌, ℕ, ◌+◌, ◌<◌, List, [], ◌∷◌, ◌++◌, length, replicate, set, get_or, refl, sym, subst, inl, inr, arith}
 use Rattle.std.specs.Prelude.{Contains}
 use Rattle.std.proofs.lemmas.Bool.{cases_lt}
 use Rattle.std.proofs.lemmas.List.{length-set, length-append, get_or_append_left, get_or_push}
 use Rattle.blocks.specs.Rows.{Rows, declared_row}
 use Rattle.type_numbers.specs.Numbers.{Numbering, IsGiven}
-use Rattle.method_frames.specs.TypeRows.{NumberedRows}
+use Rattle.method_frames.specs.NumberedRows.{NumberedRows}
 use Rattle.method_frames.specs.private.Known.{AreGiven, AreKnown}
 use Rattle.method_frames.proofs.Given.{tops_given, set_given}
 

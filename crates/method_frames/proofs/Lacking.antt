@@ -18,7 +18,7 @@ use Rattle.type_numbers.specs.Decoding.{type_by, types_by}
 use Rattle.blocks.specs.Rows.{Rows, declared_row}
 use Rattle.method_frames.specs.private.Lacking.{row_answers, answer_for, IsUnfit, Lacks, IsLacking}
 use Rattle.method_frames.specs.declared.type_rows.Lacking.{Lacking}
-use Rattle.method_frames.specs.TypeRows.{NumberedRows, declared_in}
+use Rattle.method_frames.specs.NumberedRows.{NumberedRows, declared_in}
 use Rattle.method_frames.specs.private.Known.{AreKnown}
 use Rattle.method_frames.proofs.Answering.{whole, at, long}
 use Rattle.method_frames.proofs.Knowing.{view_of}

@@ -13,7 +13,7 @@ use Rattle.type_numbers.specs.Decoding.{type_by, types_by}
 use Rattle.method_frames.specs.NumberedFrames.{NumberedFrames}
 use Rattle.method_frames.specs.MapFrames.{IsLaidOut}
 use Rattle.method_frames.specs.private.Known.{AreGiven}
-use Rattle.method_frames.specs.private.MapFrames.{AreRewritten}
+use Rattle.method_frames.specs.private.MapEntries.{AreRewritten}
 
 pub units_are : (ts : List VerificationType) → units_of ts ≡ length (in_locals ts)
 units_are ts = sym (units_reverse ts) ∙ sym (units_in (reverse ts)) ∙ ap (λ l. length (in_locals l)) (reverse-reverse ts)

@@ -16,7 +16,7 @@ use Rattle.type_numbers.specs.Numbers.{Numbering}
 use Rattle.type_numbers.specs.declared.constant_table.ConstantTable.{ConstantTable}
 use Rattle.type_numbers.specs.Decoding.{type_by, types_by}
 use Rattle.method_frames.specs.NumberedFrames.{NumberedFrame, NumberedFrames, frame_by}
-use Rattle.method_frames.specs.private.MapFrames.{AreRewritten, IsRestacked, locals_behind, chopped, against, IsDeclared}
+use Rattle.method_frames.specs.private.MapEntries.{AreRewritten, IsRestacked, locals_behind, chopped, against, IsDeclared}
 use Rattle.method_frames.proofs.LayingOut.{units_are}
 
 -- ---- sizes

@@ -2,7 +2,7 @@
 use Rattle.std.proofs.Common.{◌≡◌, ◌∙◌, ℕ, zero, suc, ◌+◌, ◌<◌, ◌≤◌, Bool, true, false, if◌then◌else◌, List, [], ◌∷◌, ◌++◌, length, map, drop, get_or, Option, Some, None, Result, Ok, Err, refl, sym, ap, subst, arith, append_assoc}
 use Rattle.std.specs.Prelude.{nat_eq}
 use Rattle.std.proofs.lemmas.Bool.Decides.{nat_tests}
-use Rattle.std.proofs.lemmas.List.{map-append, drop_more, nil_from_length, length-drop, length-map, get_or-map}
+use Rattle.std.proofs.lemmas.List.{map-append, drop_more, length-map, get_or-map}
 use Rattle.pool.specs.Entries.{Entry}
 use Rattle.insn.specs.Meanings.{Act}
 use Rattle.insn.specs.Offsets.{at_offset}
@@ -17,7 +17,7 @@ use Rattle.frames.specs.declared.stack_map.MapEntry.{MapEntry as Held}
 use Rattle.type_numbers.specs.Decoding.{types_by}
 use Rattle.method_frames.specs.NumberedFrames.{NumberedFrame, NumberedFrames, frame_by}
 use Rattle.method_frames.specs.MapFrames.{AreMore, IsLaidOut, frames_by}
-use Rattle.method_frames.specs.private.MapFrames.{AreRewritten, IsRestacked, front_of, against, behind, IsDeclared}
+use Rattle.method_frames.specs.private.MapEntries.{front_of, against, behind, IsDeclared}
 
 -- no frame is declared from an offset on
 abbrev pub NoneFrom : ℕ → NumberedFrames → Type 0

@@ -15,7 +15,7 @@ use Rattle.type_numbers.specs.Numbers.{Numbering, IsNumber, IsGiven}
 use Rattle.type_numbers.specs.Decoding.{type_by}
 use Rattle.type_numbers.proofs.Decoded.{number_read}
 use Rattle.method_frames.specs.private.Known.{AreGiven}
-use Rattle.method_frames.specs.private.MapFrames.{AreNumbers}
+use Rattle.method_frames.specs.private.MapEntries.{AreNumbers}
 
 -- one type more
 pub given_more : (pool : List Entry) (xs : List TypeInfo) (i : ℕ) (d : TypeInfo) → i < length xs

@@ -4,10 +4,10 @@ use Rattle.std.specs.Prelude.{MatchOption}
 use Rattle.std.proofs.lemmas.Option.{slice_get_read}
 use Rattle.std.proofs.lemmas.List.{length-map, length-append, length-set, get_or-map, get_or_append_left, get_or_push, map_push}
 use Rattle.insn.specs.Offsets.{at_offset}
-use Rattle.method_frames.specs.TypeRows.{NumberedRows, declared_in}
+use Rattle.method_frames.specs.NumberedRows.{NumberedRows, declared_in}
 use Rattle.method_frames.specs.NumberedStacks.{NumberedStacks, declared_stack}
 use Rattle.method_frames.specs.NumberedFrames.{NumberedFrame, NumberedFrames, empty_frame, declared_frame}
-use Rattle.method_frames.specs.private.Frames.{frame_at, frames_of, IsDeclared, IsTable, AreFrames}
+use Rattle.method_frames.specs.private.Frames.{frame_at, frames_of, HasParts, IsPlaceTable, AreFrames}
 use Rattle.method_frames.specs.declared.method.Declared.{Declared}
 use Rattle.method_frames.proofs.Heights.{declared_more, get_end}
 use Rattle.method_frames.proofs.Offsets.{same_table, table_more}
@@ -106,17 +106,17 @@ stacks_declared old new e = record {
 -- ---- the declared frames stay
 
 module _ (rows new : NumberedRows) (stacks newer : NumberedStacks) (a : RowsGrow rows new) (b : StacksGrow stacks newer) where
-  pub declared_grown : (d : Declared) → IsDeclared rows stacks d → IsDeclared new newer d
+  pub declared_grown : (d : Declared) → HasParts rows stacks d → HasParts new newer d
   declared_grown d k = record {
     locals = omega (arith, k.locals, a.more);
     even = ap length (a.same d.locals k.locals) ∙ k.even ∙ sym a.long;
     stack = omega (arith, k.stack, b.more);
   }
 
-  frame_same : (d : Declared) → IsDeclared rows stacks d → frame_at new newer d ≡ frame_at rows stacks d
+  frame_same : (d : Declared) → HasParts rows stacks d → frame_at new newer d ≡ frame_at rows stacks d
   frame_same d k = ap₂ {C = ℕ × NumberedFrame} (λ xs ys. (d.offset, record { locals = xs; stack = ys; flag = d.flag })) (a.same d.locals k.locals) (b.same d.stack k.stack)
 
-  pub frames_same : (ds : List Declared) → ((k : ℕ) (d : Declared) → slice_get ds k ≡ Some d → IsDeclared rows stacks d) → map (frame_at new newer) ds ≡ map (frame_at rows stacks) ds
+  pub frames_same : (ds : List Declared) → ((k : ℕ) (d : Declared) → slice_get ds k ≡ Some d → HasParts rows stacks d) → map (frame_at new newer) ds ≡ map (frame_at rows stacks) ds
   frames_same [] all = refl
   frames_same (d ∷ ds) all = ap₂ (λ x xs. x ∷ xs) (frame_same d (all 0 d refl)) (frames_same ds (λ k c e. all (suc k) c e))
 
@@ -125,7 +125,7 @@ module _ (rows new : NumberedRows) (stacks newer : NumberedStacks) (a : RowsGrow
     types = b.types ∙ k.types ∙ sym a.types;
     count = a.long ∙ k.count;
     declared = λ j d e. declared_grown d (k.declared j d e);
-    table = subst (IsTable places) (sym (frames_same ds k.declared)) k.table;
+    table = subst (IsPlaceTable places) (sym (frames_same ds k.declared)) k.table;
   }
 
 pub places_kept : (rows : NumberedRows) (stacks : NumberedStacks) (m : ℕ) (ds : List Declared) (places news : List ℕ) → ((at : ℕ) → get_or news at 0 ≡ get_or places at 0)
@@ -147,7 +147,7 @@ module _ (rows : NumberedRows) (stacks : NumberedStacks) (flag : Bool) (m : ℕ)
       let w : frame < length (map (frame_at rows stacks) ds) = subst (λ y. frame < length y.declared) (sym is) lt in
       omega (arith, w, long)
 
-  pub is_declared : IsDeclared rows stacks d
+  pub is_declared : HasParts rows stacks d
   is_declared = k.declared frame d (slice_get_read ds (length ds) frame d refl inside read)
 
   pub its_frame : declared_frame x frame ≡ record { locals = declared_in rows d.locals; stack = declared_stack stacks d.stack; flag = d.flag }
@@ -206,7 +206,7 @@ module _ (rows new : NumberedRows) (stacks newer : NumberedStacks) (flag : Bool)
           ∙ ap {B = NumberedFrames} (λ fs. record { types = rows.types; limit = stacks.limit; running = running; declared = fs; kept = rows.kept }) all_more
           ∙ ap {A = NumberedFrames} {B = NumberedFrames} (λ y. record y { declared = y.declared ++ (d.offset, y.running) ∷ [] }) is
 
-      is_last : IsDeclared (declared_more rows) (stacks_more stacks) d
+      is_last : HasParts (declared_more rows) (stacks_more stacks) d
       is_last =
           let more = length-append rows.declared (rows.running ∷ []) in
           let deeper = length-append stacks.declared (stacks.running ∷ []) in
@@ -217,18 +217,18 @@ module _ (rows new : NumberedRows) (stacks newer : NumberedStacks) (flag : Bool)
           let fs = map (frame_at rows stacks) ds in
           let long : length fs ≡ length ds = length-map ds (frame_at rows stacks) in
           let none : at_offset fs offset ≡ None = subst (λ y. at_offset y.declared offset ≡ None) (sym is) other in
-          let table : IsTable (set places offset (frame + 1)) (fs ++ (d.offset, running) ∷ []) =
-          subst (λ n. IsTable (set places offset (n + 1)) (fs ++ (d.offset, running) ∷ [])) (long ∙ sym at)
-          (subst (λ n. IsTable (set places offset (length fs + 1)) (fs ++ (n, running) ∷ [])) (sym o) (table_more places fs offset running k.table none room)) in
+          let table : IsPlaceTable (set places offset (frame + 1)) (fs ++ (d.offset, running) ∷ []) =
+          subst (λ n. IsPlaceTable (set places offset (n + 1)) (fs ++ (d.offset, running) ∷ [])) (long ∙ sym at)
+          (subst (λ n. IsPlaceTable (set places offset (length fs + 1)) (fs ++ (n, running) ∷ [])) (sym o) (table_more places fs offset running k.table none room)) in
           let whole : AreFrames (declared_more rows) (stacks_more stacks) m (ds ++ d ∷ []) (set places offset (frame + 1)) = record {
             types = k.types;
             count = k.count;
             declared = λ j c e. elim (get_end ds d j c e) [
               | inl old ↦
                   declared_grown rows (declared_more rows) stacks (stacks_more stacks) (rows_declared rows (declared_more rows) refl) (stacks_declared stacks (stacks_more stacks) refl) c (k.declared j c old)
-              | inr same ↦ subst (IsDeclared (declared_more rows) (stacks_more stacks)) same is_last
+              | inr same ↦ subst (HasParts (declared_more rows) (stacks_more stacks)) same is_last
             ];
-            table = subst (IsTable (set places offset (frame + 1))) (sym all_more) table;
+            table = subst (IsPlaceTable (set places offset (frame + 1))) (sym all_more) table;
           } in
           subst (λ r. AreFrames r newer m news (set places offset (frame + 1))) (sym a)
           (subst (λ s. AreFrames (declared_more rows) s m news (set places offset (frame + 1))) (sym b)

@@ -1,18 +1,16 @@
 -- Objects that are not initialized by their types and by their numbers.
-use Rattle.std.proofs.Common.{◌≡◌, ◌≢◌, ◌∙◌, ℕ, zero, suc, ◌+◌, ◌/◌, ◌<◌, ◌||◌, Bool, true, false, cond, nat_eq, nat_lt, List, [], ◌∷◌, Some, None, Result, Ok, Err, OnOk, length, map, get_or, refl, sym, ap, ap₂, subst, arith, ◌⊎◌, inl, inr}
-use Rattle.std.proofs.lemmas.Bool.{true≢false, cases_Bool}
+use Rattle.std.proofs.Common.{◌≡◌, ◌∙◌, ℕ, suc, ◌<◌, ◌||◌, Bool, true, false, cond, nat_eq, nat_lt, List, [], ◌∷◌, Result, Ok, Err, OnOk, map, refl, sym, ap, ap₂, subst, arith}
+use Rattle.std.proofs.lemmas.Bool.{true≢false}
 use Rattle.std.proofs.lemmas.Bool.Decides.{nat_tests}
-use Rattle.hierarchy.proofs.Names.{some_same}
-use Rattle.frames.specs.VerificationType.{VerificationType, top, int, float, long, double, null, class, array, uninit_this, uninit}
+use Rattle.frames.specs.VerificationType.{VerificationType, top, uninit_this, uninit}
 use Rattle.frames.specs.Objects.{is_initialized, replaced as type_replaced}
 use Rattle.frames.specs.Objects.{has_object}
 use Rattle.frames.proofs.OneObject.{same_object}
-use Rattle.type_numbers.specs.Numbers.{Numbering, IsNumber, IsGiven, numbered}
+use Rattle.type_numbers.specs.Numbers.{Numbering, IsNumber, IsGiven}
 use Rattle.type_numbers.specs.Decoding.{type_by, types_by}
-use Rattle.type_numbers.proofs.Decoded.{number_read, one_type}
+use Rattle.type_numbers.proofs.Decoded.{number_read}
 use Rattle.type_numbers.proofs.LawsOfNumbers.{one_number}
-use Rattle.type_numbers.proofs.NumberParts.{HasParts, parts_of, tag_back}
-use Rattle.method_frames.specs.Objects.{own_object, made_object, is_object, holds, replaced}
+use Rattle.method_frames.specs.Objects.{own_object, made_object, holds, replaced}
 use Rattle.method_frames.specs.ObjectLaws.{IsObjectType}
 use Rattle.method_frames.specs.private.Known.{AreGiven}
 

@@ -5,7 +5,7 @@ use Rattle.std.proofs.lemmas.Bool.{cases_eq}
 use Rattle.std.proofs.lemmas.List.{get_or-set_same, get_or-set_other}
 use Rattle.insn.specs.Offsets.{at_offset}
 use Rattle.method_frames.specs.NumberedFrames.{NumberedFrame}
-use Rattle.method_frames.specs.private.Frames.{IsTable}
+use Rattle.method_frames.specs.private.Frames.{IsPlaceTable}
 
 some_none : {A P : Type 0} {a : A} → Some a ≡ None → P
 some_none e = absurd (cc)
@@ -37,13 +37,13 @@ module _ {A : Type 0} where
   get_last [] y = refl
   get_last (x ∷ xs) y = get_last xs y
 
-pub no_table : IsTable [] []
+pub no_table : IsPlaceTable [] []
 no_table = record { none = λ at e. refl; some = λ at frame e. absurd (omega (arith, e)) }
 
-pub same_table : (places new : List ℕ) (fs : List (ℕ × NumberedFrame)) → ((at : ℕ) → get_or new at 0 ≡ get_or places at 0) → IsTable places fs → IsTable new fs
+pub same_table : (places new : List ℕ) (fs : List (ℕ × NumberedFrame)) → ((at : ℕ) → get_or new at 0 ≡ get_or places at 0) → IsPlaceTable places fs → IsPlaceTable new fs
 same_table places new fs same t = record { none = λ at e. t.none at (sym (same at) ∙ e); some = λ at frame e. t.some at frame (sym (same at) ∙ e) }
 
-module _ (places : List ℕ) (fs : List (ℕ × NumberedFrame)) (at : ℕ) (f : NumberedFrame) (t : IsTable places fs) (other : at_offset fs at ≡ None) (room : at < length places) where
+module _ (places : List ℕ) (fs : List (ℕ × NumberedFrame)) (at : ℕ) (f : NumberedFrame) (t : IsPlaceTable places fs) (other : at_offset fs at ≡ None) (room : at < length places) where
   abbrev news : List ℕ
   news = set places at (length fs + 1)
 
@@ -59,7 +59,7 @@ module _ (places : List ℕ) (fs : List (ℕ × NumberedFrame)) (at : ℕ) (f : 
   apart : (o : ℕ) → o ≢ at → nat_eq at o ≡ false
   apart o ne = ne_eqb at o (λ q. ne (sym q))
 
-  pub table_more : IsTable news all
+  pub table_more : IsPlaceTable news all
   table_more = record {
     none = λ o e. elim (cases_eq o at) [
       | inl q ↦ let h : get_or news o 0 ≡ length fs + 1 = ap (λ j. get_or news j 0) q ∙ here in absurd (omega (arith, e, h))
@@ -78,7 +78,7 @@ module _ (places : List ℕ) (fs : List (ℕ × NumberedFrame)) (at : ℕ) (f : 
   }
 
 -- what is found
-pub is_found : (places : List ℕ) (fs : List (ℕ × NumberedFrame)) (at frame : ℕ) → IsTable places fs → get_or places at 0 ≡ frame + 1
+pub is_found : (places : List ℕ) (fs : List (ℕ × NumberedFrame)) (at frame : ℕ) → IsPlaceTable places fs → get_or places at 0 ≡ frame + 1
     → IsSomeAnd (slice_get fs frame) (λ x. (x.0 ≡ at) × (at_offset fs at ≡ Some x.1))
 is_found places fs at frame t e =
     let found = t.some at frame e in

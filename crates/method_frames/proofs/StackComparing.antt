@@ -8,7 +8,7 @@ use Rattle.frames.specs.Slots.{units_of}
 use Rattle.frames.proofs.Slots.{stack_uneven}
 use Rattle.type_numbers.specs.Numbers.{Numbering}
 use Rattle.type_numbers.specs.Decoding.{type_by, types_by}
-use Rattle.method_frames.specs.TypeRows.{NumberedRows, declared_in}
+use Rattle.method_frames.specs.NumberedRows.{NumberedRows, declared_in}
 use Rattle.method_frames.specs.NumberedStacks.{NumberedStacks, declared_stack}
 use Rattle.method_frames.specs.private.Stacks.{stack_at, stacks_of, IsHeight, AreStacks, Changes, Holds}
 use Rattle.method_frames.specs.declared.stack_rows.Height.{Height}

@@ -1,8 +1,8 @@
 -- The running stack where another number takes the place of an object's, and one with an item alone.
-use Rattle.std.proofs.Common.{◌≡◌, ◌≢◌, ◌∙◌, ℕ, ◌+◌, ◌<◌, ◌≤◌, Bool, true, false, cond, nat_eq, eqb, eq-eqb, List, [], ◌∷◌, length, map, take, get_or, reverse, refl, sym, ap, ap₂, subst, inl, inr, ◌⊎◌, arith}
+use Rattle.std.proofs.Common.{◌≡◌, ◌≢◌, ◌∙◌, ℕ, ◌+◌, ◌<◌, ◌≤◌, Bool, true, false, cond, nat_eq, eq-eqb, List, [], ◌∷◌, length, map, take, get_or, reverse, sym, ap, subst, inl, inr, ◌⊎◌, arith}
 use Rattle.std.proofs.lemmas.Bool.{true≢false}
 use Rattle.std.proofs.lemmas.Bool.Decides.{nat_tests}
-use Rattle.std.proofs.lemmas.List.{length-map, get_or-map, take_more}
+use Rattle.std.proofs.lemmas.List.{length-map, take_more}
 use Rattle.std.proofs.Math.ListN as lists
 use Rattle.hierarchy.specs.Class.{ClassFact}
 use Rattle.hierarchy.specs.Answer.{Outcome, no, yes_if}
@@ -13,10 +13,10 @@ use Rattle.frames.specs.Slots.{units_of}
 use Rattle.type_numbers.specs.Numbers.{Numbering, IsGiven}
 use Rattle.type_numbers.specs.Decoding.{type_by, types_by}
 use Rattle.method_frames.specs.Objects.{is_object, replaced}
-use Rattle.method_frames.specs.TypeRows.{NumberedRows, declared_in}
+use Rattle.method_frames.specs.NumberedRows.{NumberedRows, declared_in}
 use Rattle.method_frames.specs.NumberedStacks.{NumberedStacks, declared_stack}
 use Rattle.method_frames.specs.private.Known.{AreGiven}
-use Rattle.method_frames.specs.private.Stacks.{stacks_of, stack_at, IsHeight, AreStacks}
+use Rattle.method_frames.specs.private.Stacks.{stacks_of, IsHeight, AreStacks}
 use Rattle.method_frames.specs.declared.stack_rows.Height.{Height}
 use Rattle.method_frames.proofs.Counting.{map_reverse}
 use Rattle.method_frames.proofs.Heights.{height_kept, is_height, its_stack}

@@ -2,7 +2,7 @@
 use Rattle.std.proofs.Common.{◌≡◌, ◌∙◌, ℕ, ◌+◌, ◌<◌, ◌≤◌, List, [], ◌∷◌, length, set, take, get_or, reverse, refl, sym, ap, inl, inr, arith}
 use Rattle.std.proofs.lemmas.Bool.{cases_eq}
 use Rattle.std.proofs.lemmas.List.{length-set, get_or-set_same, get_or-set_other, take_more, reverse-append}
-use Rattle.method_frames.specs.TypeRows.{NumberedRows}
+use Rattle.method_frames.specs.NumberedRows.{NumberedRows}
 use Rattle.method_frames.specs.private.Stacks.{Changes, Holds}
 
 pub no_change : (from to : ℕ) (rows : NumberedRows) → Changes from to rows rows

@@ -7,7 +7,7 @@ use Rattle.insn.specs.OperandStacks.{chosen, rearranged}
 use Rattle.frames.specs.Slots.{units_of}
 use Rattle.type_numbers.specs.Numbers.{Numbering, IsGiven}
 use Rattle.type_numbers.specs.Decoding.{types_by}
-use Rattle.method_frames.specs.TypeRows.{NumberedRows, declared_in}
+use Rattle.method_frames.specs.NumberedRows.{NumberedRows, declared_in}
 use Rattle.method_frames.specs.NumberedStacks.{NumberedStacks}
 use Rattle.method_frames.specs.private.Known.{AreGiven}
 use Rattle.method_frames.specs.private.Stacks.{stack_at, stacks_of, IsHeight, AreStacks, Changes, Holds}

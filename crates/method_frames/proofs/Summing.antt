@@ -9,7 +9,7 @@ use Rattle.frames.specs.DeclaredFrames.{is_uninit_this, has_uninit_this}
 use Rattle.type_numbers.specs.Numbers.{Numbering}
 use Rattle.type_numbers.specs.Decoding.{type_by, types_by}
 use Rattle.method_frames.specs.private.MapLocals.{own_among, AreSummed}
-use Rattle.method_frames.proofs.Counting.{none_numbered, none_counted, counted_more, counted_less}
+use Rattle.method_frames.proofs.Counting.{none_numbered, counted_more, counted_less}
 
 abbrev pub one_if : Bool → ℕ
 one_if b = if b then 1 else 0

@@ -9,7 +9,7 @@ use Rattle.blocks.specs.Rows.{Rows, declared_row, IsSettled, IsFirstUndecided, I
 use Rattle.blocks.proofs.Judging.{settled_slots_fit, truths_stay}
 use Rattle.type_numbers.specs.Numbers.{Numbering}
 use Rattle.type_numbers.specs.Decoding.{type_by, types_by}
-use Rattle.method_frames.specs.TypeRows.{NumberedRows, declared_in}
+use Rattle.method_frames.specs.NumberedRows.{NumberedRows, declared_in}
 use Rattle.method_frames.specs.private.Known.{AreGiven, AreKnown, fits}
 use Rattle.method_frames.specs.private.Lacking.{row_answers, IsUnfit}
 use Rattle.method_frames.proofs.Answering.{judgement, whole, long, at, fitting, all_fit}

@@ -1,4 +1,4 @@
-pub mod TypeRows
+pub mod NumberedRows
 pub mod NumberedStacks
 pub mod NumberedFrames
 pub mod MapFrames

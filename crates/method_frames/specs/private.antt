@@ -7,4 +7,4 @@ pub mod Stacks
 pub mod Frames
 pub mod Moves
 pub mod MapLocals
-pub mod MapFrames
+pub mod MapEntries

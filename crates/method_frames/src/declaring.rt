@@ -14,9 +14,11 @@ ghost use Rattle.type_numbers.specs.Decoding.{type_by, types_by};
 ghost use Rattle.method_frames.specs.MapFrames.{AreDeclared, AreMore, IsLaidOut, frames_by, refused_by};
 ghost use Rattle.method_frames.specs.NumberedFrames.{frame_by};
 ghost use Rattle.method_frames.specs.private.Known.{AreGiven};
-ghost use Rattle.method_frames.specs.private.MapFrames.{AreNumbers, AreRewritten, IsRestacked, Declares, locals_behind, chopped};
+ghost use Rattle.method_frames.specs.private.MapEntries.{AreNumbers, AreRewritten, IsRestacked, Declares, locals_behind, chopped};
 
+use crate::items::append;
 use crate::map_locals::MapLocals;
+use crate::map_memory::MapMemory;
 use crate::method::MethodFrames;
 use frames::{FrameFault, Limits, MapEntry, RefusedEntry, Sizes, Starts, TypeInfo, judge_entry};
 use hierarchy::Classes;
@@ -94,7 +96,7 @@ fn stack_units(entry: &MapEntry) -> usize
 }
 
 /// Puts a local behind the others, in the running frame too.
-fn append<C: Classes>(
+fn add<C: Classes>(
     number: u32,
     locals: &mut MapLocals,
     frames: &mut MethodFrames<'_, '_, '_, C>,
@@ -129,20 +131,21 @@ fn chop<C: Classes>(
     Ok(())
 }
 
-/// The numbers of the types that an entry gives.
+/// The numbers of the types that an entry gives, in place of what was there.
 fn numbers_given(
-    alloc: Global,
     infos: &[TypeInfo],
     table: &ConstantTable,
-) -> Result<Vec<u32>, AllocError>
-    ensures { IfOk result (λ v. (s : Numbering) (pool : List Entry) → IsTable s pool table.now
-        → AreNumbers s v.items (types_given pool (map info_of infos.now))) }
+    numbers: &mut Vec<u32>,
+) -> Result<(), AllocError>
+    ensures { OnOk result ((s : Numbering) (pool : List Entry) → IsTable s pool table.now
+        → AreNumbers s numbers.new.items (types_given pool (map info_of infos.now))) }
 {
-    let mut numbers = Vec::with_capacity(alloc, infos.len())?;
+    numbers.clear();
     for i in 0..infos.len() {
-        numbers.push(number_given(infos[i], table))?;
+        let number = number_given(infos[i], table);
+        append(number, numbers)?;
     }
-    Ok(numbers)
+    Ok(())
 }
 
 /// Puts locals behind the others, in the running frame too.
@@ -159,7 +162,7 @@ fn append_all<C: Classes>(
     ensures laid { OnOk result (IsLaidOut frames.new locals.new) }
 {
     for i in 0..numbers.len() {
-        append(numbers[i], locals, frames)?;
+        add(numbers[i], locals, frames)?;
     }
     Ok(())
 }
@@ -199,9 +202,9 @@ fn change_all<C: Classes>(
 
 /// Writes the locals of an entry, in the running frame too. Those that it chops are gone already.
 fn write_locals<C: Classes>(
-    alloc: Global,
     entry: &MapEntry,
     table: &ConstantTable,
+    given: &mut Vec<u32>,
     locals: &mut MapLocals,
     frames: &mut MethodFrames<'_, '_, '_, C>,
 ) -> Result<(), AllocError>
@@ -217,12 +220,12 @@ fn write_locals<C: Classes>(
 {
     match entry {
         MapEntry::Append(_, infos) => {
-            let numbers = numbers_given(alloc, infos, table)?;
-            append_all(&numbers, locals, frames)
+            numbers_given(infos, table, given)?;
+            append_all(given, locals, frames)
         }
         MapEntry::Full(_, infos, _) => {
-            let numbers = numbers_given(alloc, infos, table)?;
-            change_all(&numbers, locals, frames)
+            numbers_given(infos, table, given)?;
+            change_all(given, locals, frames)
         }
         _ => Ok(()),
     }
@@ -246,9 +249,9 @@ fn push_all<C: Classes>(
 
 /// The running stack becomes that of an entry.
 fn write_stack<C: Classes>(
-    alloc: Global,
     entry: &MapEntry,
     table: &ConstantTable,
+    given: &mut Vec<u32>,
     frames: &mut MethodFrames<'_, '_, '_, C>,
 ) -> Result<(), AllocError>
     requires table { (pool : List Entry) × IsTable frames.old.types pool table.now }
@@ -262,8 +265,8 @@ fn write_stack<C: Classes>(
             frames.push(number_given(*item, table))
         }
         MapEntry::Full(_, _, infos) => {
-            let numbers = numbers_given(alloc, infos, table)?;
-            push_all(&numbers, frames)
+            numbers_given(infos, table, given)?;
+            push_all(given, frames)
         }
         _ => Ok(()),
     }
@@ -293,11 +296,11 @@ fn write_chop<C: Classes>(
 /// Declares the frame of an entry at an offset in bytes, behind locals which become those of the entry; or tells its
 /// least fault. The running frame becomes the one that is declared.
 fn declare_one<St: Starts, C: Classes>(
-    alloc: Global,
     entry: &MapEntry,
     at: u32,
     limits: &Limits<'_, '_, St>,
     table: &ConstantTable,
+    given: &mut Vec<u32>,
     locals: &mut MapLocals,
     frames: &mut MethodFrames<'_, '_, '_, C>,
 ) -> Result<Option<FrameFault>, AllocError>
@@ -322,8 +325,8 @@ fn declare_one<St: Starts, C: Classes>(
     if let Some(fault) = judge_entry(entry, at, sizes, limits) {
         return Ok(Some(fault));
     }
-    write_locals(alloc, entry, table, locals, frames)?;
-    write_stack(alloc, entry, table, frames)?;
+    write_locals(entry, table, given, locals, frames)?;
+    write_stack(entry, table, given, frames)?;
     frames.set_flag(locals.have_own());
     frames.declare(at as u16)?;
     Ok(None)
@@ -331,10 +334,10 @@ fn declare_one<St: Starts, C: Classes>(
 
 /// Declares the frames of entries behind these locals, or tells the first entry that is refused.
 fn declare_all<St: Starts, C: Classes>(
-    alloc: Global,
     entries: &[MapEntry],
     limits: &Limits<'_, '_, St>,
     table: &ConstantTable,
+    given: &mut Vec<u32>,
     locals: &mut MapLocals,
     frames: &mut MethodFrames<'_, '_, '_, C>,
 ) -> Result<Result<(), RefusedEntry>, AllocError>
@@ -356,11 +359,50 @@ fn declare_all<St: Starts, C: Classes>(
     for place in 0..entries.len() {
         let entry = &entries[place];
         let at = behind + u32::from(entry.delta());
-        if let Some(fault) = declare_one(alloc, entry, at, limits, table, locals, frames)? {
+        if let Some(fault) = declare_one(entry, at, limits, table, given, locals, frames)? {
             return Ok(Err(RefusedEntry { place, at, fault }));
         }
         behind = at + 1;
     }
+    Ok(Ok(()))
+}
+
+/// Declares the frames of a method's stack map as [`declare`] does, behind locals of which there are none yet.
+fn declare_within<St: Starts, C: Classes>(
+    entries: &[MapEntry],
+    limits: &Limits<'_, '_, St>,
+    table: &ConstantTable,
+    initial: &[u32],
+    given: &mut Vec<u32>,
+    locals: &mut MapLocals,
+    frames: &mut MethodFrames<'_, '_, '_, C>,
+) -> Result<Result<(), RefusedEntry>, AllocError>
+    requires table { IsTable frames.old.types limits.now.pool.now table.now }
+    requires max_locals { limits.now.max_locals ≡ length frames.old.running.locals }
+    requires max_stack { limits.now.max_stack ≡ frames.old.limit }
+    requires none { frames.old.declared ≡ [] }
+    requires top { frames.old.running.locals ≡ replicate limits.now.max_locals 0 }
+    requires given { (i : ℕ) → i < length initial.now → IsGiven frames.old.types (slice_index initial.now i) }
+    requires fits { units_of (types_by frames.old.types initial.now) ≤ limits.now.max_locals }
+    requires locals { locals.old ≡ [] }
+    ensures rest { AreMore frames.old frames.new }
+    ensures running { IfOk result (λ r. IfOk r (λ u. frame_by frames.old.types frames.new.running
+        ≡ frame_with limits.now.pool.now (St.code limits.now.starts.now) limits.now.max_locals limits.now.max_stack
+        (types_by frames.old.types initial.now) [])) }
+    ensures declared { IfOk result (AreDeclared (declared_frames limits.now.pool.now (St.code limits.now.starts.now)
+        limits.now.max_locals limits.now.max_stack (types_by frames.old.types initial.now) (map entry_of entries.now))
+        (frames_by frames.old.types frames.new.declared)) }
+    ensures refused { IfOk result (λ r. refused_by r ≡ refused_entry limits.now.pool.now
+        (St.code limits.now.starts.now) limits.now.max_locals limits.now.max_stack (types_by frames.old.types initial.now)
+        (map entry_of entries.now)) }
+{
+    append_all(initial, locals, frames)?;
+    if let Err(refused) = declare_all(entries, limits, table, given, locals, frames)? {
+        return Ok(Err(refused));
+    }
+    change_all(initial, locals, frames)?;
+    frames.clear_stack();
+    frames.set_flag(locals.have_own());
     Ok(Ok(()))
 }
 
@@ -396,13 +438,19 @@ pub fn declare<St: Starts, C: Classes>(
         (St.code limits.now.starts.now) limits.now.max_locals limits.now.max_stack (types_by frames.old.types initial.now)
         (map entry_of entries.now)) }
 {
-    let mut locals = MapLocals::new(alloc);
-    append_all(initial, &mut locals, frames)?;
-    if let Err(refused) = declare_all(alloc, entries, limits, table, &mut locals, frames)? {
-        return Ok(Err(refused));
-    }
-    change_all(initial, &mut locals, frames)?;
-    frames.clear_stack();
-    frames.set_flag(locals.have_own());
-    Ok(Ok(()))
+    let memory = frames.lend(alloc);
+    let mut given = memory.given;
+    let mut locals = MapLocals::within(memory.locals);
+    let answer = declare_within(
+        entries,
+        limits,
+        table,
+        initial,
+        &mut given,
+        &mut locals,
+        frames,
+    )?;
+    let locals = locals.into_memory();
+    frames.take_back(MapMemory { locals, given });
+    Ok(answer)
 }

@@ -46,7 +46,7 @@ fn make_room(numbers: &mut Vec<u32>) -> Result<(), AllocError>
 
 /// Puts a number behind the others.
 #[inline(always)]
-fn append(number: u32, numbers: &mut Vec<u32>) -> Result<(), AllocError>
+pub(crate) fn append(number: u32, numbers: &mut Vec<u32>) -> Result<(), AllocError>
     ensures ok { OnOk result (numbers.new.items ≡ numbers.old.items ++ number ∷ []) }
     ensures len { OnOk result (vec_len numbers.new ≡ vec_len numbers.old + 1) }
     ensures err { OnErr result (numbers.new.items ≡ numbers.old.items) }

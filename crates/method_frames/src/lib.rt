@@ -5,7 +5,8 @@
 //! - `holders`: the places that came to hold objects that are not initialized.
 //! - `items`: the items of an operand stack.
 //! - `laws`: what the numbers of objects mean, without code.
-//! - `map_locals`: the locals that an entry of a stack map leaves.
+//! - `map_locals`: the locals of the frame that an entry of a stack map declares, as the next entry finds them.
+//! - `map_memory`: memory in which the entries of stack maps are gone through.
 //! - `method`: the frames of a method, put together of the others.
 //! - `moves`: items as the instructions for the stack move them.
 //! - `objects`: objects that are not initialized, by their numbers.
@@ -19,6 +20,7 @@ mod holders;
 mod items;
 pub mod laws;
 mod map_locals;
+mod map_memory;
 mod method;
 mod moves;
 mod objects;

@@ -5,15 +5,17 @@ ghost use Rattle.frames.specs.Slots.{units_of};
 ghost use Rattle.type_numbers.specs.Numbers.{Numbering};
 ghost use Rattle.type_numbers.specs.Decoding.{type_by, types_by};
 
+use crate::items::append;
+use crate::objects::OWN_TAG;
 use crate::widths::extra;
-use std::alloc::{AllocError, Global};
+use std::alloc::AllocError;
 use std::marker::Model;
 
 /// Whether the type of a number is that of the own object that is not initialized.
 fn is_own(number: u32) -> bool
     ensures { (s : Numbering) → result ≡ is_uninit_this (type_by s number) }
 {
-    number / 0x0100_0000 == 6
+    number / 0x0100_0000 == OWN_TAG
 }
 
 /// The locals that an entry of a stack map leaves (JVMS 4.7.4), by the numbers of their types: a long or double is one
@@ -39,15 +41,22 @@ impl Model for MapLocals {
 }
 
 impl MapLocals {
-    /// None.
-    pub fn new(alloc: Global) -> MapLocals
+    /// None, in memory that there is.
+    pub fn within(memory: Vec<u32>) -> MapLocals
         ensures { result ≡ [] }
     {
+        let mut numbers = memory;
+        numbers.clear();
         MapLocals {
-            numbers: Vec::new(alloc),
+            numbers,
             wides: 0,
             own: 0,
         }
+    }
+
+    /// The memory that they take.
+    pub fn into_memory(self) -> Vec<u32> {
+        self.numbers
     }
 
     /// How many they are.
@@ -79,10 +88,11 @@ impl MapLocals {
     }
 
     /// Puts a local behind the others.
+    #[inline(always)]
     pub fn push(&mut self, number: u32) -> Result<(), AllocError>
         ensures { OnOk result (self.new ≡ self.old ++ number ∷ []) }
     {
-        self.numbers.push(number)?;
+        append(number, &mut self.numbers)?;
         self.wides += extra(number);
         if is_own(number) {
             self.own += 1;

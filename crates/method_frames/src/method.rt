@@ -1,6 +1,7 @@
 //! The running frame of a method, and its declared frames.
 ghost use Rattle.std.specs.Prelude.{◌≡◌, ◌+◌, ◌<◌, ◌^◌, ℕ, length, slice_index, OnOk};
 
+use crate::map_memory::MapMemory;
 use crate::objects::{OWN_OBJECT, made_object};
 use crate::stack_rows::StackRows;
 use crate::type_rows::TypeRows;
@@ -10,6 +11,7 @@ use hierarchy::{Answer, Classes};
 use insn::StackForm;
 use std::alloc::{AllocError, Global};
 use std::marker::Model;
+use std::mem;
 use type_numbers::TypeNumbers;
 
 /// A declared frame: its offset, and where its parts are.
@@ -42,6 +44,7 @@ pub struct MethodFrames<'t, 'c, 'n, C: Classes> {
     declared: Vec<Declared>,
     /// By offsets, the place of the declared frame, counted from 1; 0 where there is none.
     places: Vec<usize>,
+    memory: MapMemory,
 }
 
 impl<'t, 'c, 'n, C: Classes> Model for MethodFrames<'t, 'c, 'n, C> {
@@ -118,6 +121,7 @@ impl<'t, 'c, 'n, C: Classes> MethodFrames<'t, 'c, 'n, C> {
             flag,
             declared: Vec::new(alloc),
             places: Vec::new(alloc),
+            memory: MapMemory::new(alloc),
         })
     }
 
@@ -138,6 +142,20 @@ impl<'t, 'c, 'n, C: Classes> MethodFrames<'t, 'c, 'n, C> {
         self.flag = flag;
         self.declared.clear();
         self.places.clear();
+    }
+
+    /// Lends the memory in which the entries of a stack map are gone through.
+    pub(crate) fn lend(&mut self, alloc: Global) -> MapMemory
+        ensures { self.new ≡ self.old }
+    {
+        mem::replace(&mut self.memory, MapMemory::new(alloc))
+    }
+
+    /// Takes the memory back that was lent.
+    pub(crate) fn take_back(&mut self, memory: MapMemory)
+        ensures { self.new ≡ self.old }
+    {
+        self.memory = memory;
     }
 
     /// The numbers that types have.

@@ -42,8 +42,8 @@ pub struct TypeRows<'t, 'c, 'n, C: Classes> {
 }
 
 impl<'t, 'c, 'n, C: Classes> Model for TypeRows<'t, 'c, 'n, C> {
-    ghost use Rattle.method_frames.specs.TypeRows.{NumberedRows};
-    ghost use Rattle.method_frames.specs.private.Lacking.{AreKept};
+    ghost use Rattle.method_frames.specs.NumberedRows.{NumberedRows};
+    ghost use Rattle.method_frames.specs.private.Lacking.{AreTypeRows};
 
     ghost Value = { NumberedRows };
 
@@ -54,7 +54,7 @@ impl<'t, 'c, 'n, C: Classes> Model for TypeRows<'t, 'c, 'n, C> {
       kept = x.rows.kept;
     } };
 
-    ghost invariant = { λ x. AreKept (x.types.now) x.rows x.holders x.lacking };
+    ghost invariant = { λ x. AreTypeRows (x.types.now) x.rows x.holders x.lacking };
 }
 
 /// Puts a number in place of an object's, at the places of the running row that came to hold it.
@@ -92,7 +92,7 @@ impl<'t, 'c, 'n, C: Classes> TypeRows<'t, 'c, 'n, C> {
     ghost use Rattle.frames.specs.FrameAssignable.{list_answer};
     ghost use Rattle.type_numbers.specs.Numbers.{IsGiven, IsNumber};
     ghost use Rattle.type_numbers.specs.Decoding.{type_by, types_by};
-    ghost use Rattle.method_frames.specs.TypeRows.{declared_in};
+    ghost use Rattle.method_frames.specs.NumberedRows.{declared_in};
     ghost use Rattle.blocks.specs.Rows.{IsFirstUnequal};
     ghost use Rattle.frames.specs.FrameAssignable.{both};
     ghost use Rattle.frames.specs.PackedFrames.{joined};

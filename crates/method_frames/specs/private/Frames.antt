@@ -2,7 +2,7 @@
 -- declared ones by their offsets.
 use Rattle.std.specs.Prelude.{◌≡◌, ℕ, ◌+◌, ◌<◌, Bool, List, length, map, slice_index, slice_get, Some, None}
 use Rattle.insn.specs.Offsets.{at_offset}
-use Rattle.method_frames.specs.TypeRows.{NumberedRows, declared_in}
+use Rattle.method_frames.specs.NumberedRows.{NumberedRows, declared_in}
 use Rattle.method_frames.specs.NumberedStacks.{NumberedStacks, declared_stack}
 use Rattle.method_frames.specs.NumberedFrames.{NumberedFrame, NumberedFrames}
 use Rattle.method_frames.specs.declared.method.Declared.{Declared}
@@ -22,14 +22,14 @@ frames_of rows stacks flag frames = record {
 }
 
 -- the parts of a declared frame are there
-pub record IsDeclared (rows : NumberedRows) (stacks : NumberedStacks) (d : Declared) : Type 0 where
+pub record HasParts (rows : NumberedRows) (stacks : NumberedStacks) (d : Declared) : Type 0 where
   pub locals : d.locals < length rows.declared
   pub even : length (declared_in rows d.locals) ≡ length rows.running
   pub stack : d.stack < length stacks.declared
 
 -- a place that a table has for an offset, counted from 1, is that of the frame that is declared there; where it has
 -- none, there is none
-pub record IsTable (places : List ℕ) (frames : List (ℕ × NumberedFrame)) : Type 0 where
+pub record IsPlaceTable (places : List ℕ) (frames : List (ℕ × NumberedFrame)) : Type 0 where
   pub none : (at : ℕ) → slice_index places at ≡ 0 → at_offset frames at ≡ None
   pub some : (at frame : ℕ) → slice_index places at ≡ frame + 1
       → (f : NumberedFrame) × (slice_get frames frame ≡ Some (at, f)) × (at_offset frames at ≡ Some f)
@@ -38,5 +38,5 @@ pub record AreFrames (rows : NumberedRows) (stacks : NumberedStacks) (max_locals
     (places : List ℕ) : Type 0 where
   pub types : stacks.types ≡ rows.types
   pub count : length rows.running ≡ max_locals
-  pub declared : (k : ℕ) (d : Declared) → slice_get frames k ≡ Some d → IsDeclared rows stacks d
-  pub table : IsTable places (map (frame_at rows stacks) frames)
+  pub declared : (k : ℕ) (d : Declared) → slice_get frames k ≡ Some d → HasParts rows stacks d
+  pub table : IsPlaceTable places (map (frame_at rows stacks) frames)

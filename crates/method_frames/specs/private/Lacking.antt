@@ -40,6 +40,6 @@ pub record IsLacking (s : Numbering) (rows : Rows) (x : Lacking) : Type 0 where
   pub row : x.row < length rows.declared
   pub lacks : Lacks s rows.running (declared_row rows x.row) x.end x.name.now
 
-pub record AreKept (s : Numbering) (rows : Rows) (x : Holders) (l : Option Lacking) : Type 0 where
+pub record AreTypeRows (s : Numbering) (rows : Rows) (x : Holders) (l : Option Lacking) : Type 0 where
   pub held : AreHeld s rows x
   pub lacking : IfSome l (IsLacking s rows)

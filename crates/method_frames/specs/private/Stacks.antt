@@ -1,7 +1,7 @@
 -- Operand stacks as they are kept: the items of the running one, and rows that hold the items of each from the bottom
 -- up, with Top above.
 use Rattle.std.specs.Prelude.{◌≡◌, ℕ, ◌≤◌, ◌<◌, List, length, map, take, reverse, slice_index, slice_get, Some}
-use Rattle.method_frames.specs.TypeRows.{NumberedRows, declared_in}
+use Rattle.method_frames.specs.NumberedRows.{NumberedRows, declared_in}
 use Rattle.method_frames.specs.NumberedStacks.{NumberedStacks}
 use Rattle.method_frames.specs.private.Known.{AreGiven}
 use Rattle.method_frames.specs.private.Counted.{IsCounted}

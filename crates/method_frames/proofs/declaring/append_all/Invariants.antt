@@ -1,6 +1,6 @@
 use Rattle.std.proofs.Common.{◌≡◌, ◌++◌, take}
 use Rattle.method_frames.specs.MapFrames.{IsLaidOut}
-use Rattle.method_frames.specs.private.MapFrames.{AreRewritten}
+use Rattle.method_frames.specs.private.MapEntries.{AreRewritten}
 use Rattle.method_frames.proofs.declaring.append_all.Given as goal
 
 abbrev pub invariant-loop-i : goal.invariant-loop-i

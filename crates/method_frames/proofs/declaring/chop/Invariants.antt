@@ -1,6 +1,6 @@
 use Rattle.std.proofs.Common.{◌≡◌, length, take}
 use Rattle.method_frames.specs.MapFrames.{IsLaidOut}
-use Rattle.method_frames.specs.private.MapFrames.{AreRewritten}
+use Rattle.method_frames.specs.private.MapEntries.{AreRewritten}
 use Rattle.method_frames.proofs.declaring.chop.Given as goal
 
 abbrev pub invariant-loop-locals : goal.invariant-loop-locals

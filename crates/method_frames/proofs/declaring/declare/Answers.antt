@@ -1,13 +1,6 @@
-use Rattle.std.proofs.Common.{◌∙◌, sym, ap, subst}
-use Rattle.method_frames.specs.MapFrames.{IsLaidOut}
+use Rattle.std.proofs.Common.{subst, sym}
 use Rattle.method_frames.specs.private.Known.{AreGiven}
-use Rattle.method_frames.proofs.LayingOut.{top_laid}
 use Rattle.method_frames.proofs.declaring.declare.Goals as goal
 
-pub append_all-requires-clause-laid : goal.append_all-requires-clause-laid
-append_all-requires-clause-laid g c = subst (IsLaidOut c.args.frames.now) (sym c.new-locals.ensures) (top_laid c.args.frames.now c.args.limits.now.max_locals c.requires.top)
-
-pub change_all-requires-clause-given : goal.change_all-requires-clause-given
-change_all-requires-clause-given g c =
-    let same = ap (λ x. x.types) c.in_ok-refused.ensures.rest.others ∙ ap (λ x. x.types) c.in_ok-append_all.ensures.rest.others in
-    subst (λ s. AreGiven s c.args.initial.now) (sym same) c.requires.given
+pub declare_within-requires-clause-given : goal.declare_within-requires-clause-given
+declare_within-requires-clause-given g c = subst (λ x. AreGiven x.types c.args.initial.now) (sym c.lend-memory.ensures) c.requires.given

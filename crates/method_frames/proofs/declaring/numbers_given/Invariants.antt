@@ -4,7 +4,7 @@ use Rattle.frames.specs.MapViews.{info_of}
 use Rattle.frames.specs.DeclaredFrames.{types_given}
 use Rattle.type_numbers.specs.Numbers.{Numbering}
 use Rattle.type_numbers.specs.Constants.{IsTable}
-use Rattle.method_frames.specs.private.MapFrames.{AreNumbers}
+use Rattle.method_frames.specs.private.MapEntries.{AreNumbers}
 use Rattle.method_frames.proofs.declaring.numbers_given.Given as goal
 
 abbrev pub invariant-loop-i : goal.invariant-loop-i

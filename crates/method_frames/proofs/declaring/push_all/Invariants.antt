@@ -1,5 +1,5 @@
 use Rattle.std.proofs.Common.{◌≡◌, ◌++◌, take, reverse}
-use Rattle.method_frames.specs.private.MapFrames.{IsRestacked}
+use Rattle.method_frames.specs.private.MapEntries.{IsRestacked}
 use Rattle.method_frames.proofs.declaring.push_all.Given as goal
 
 abbrev pub invariant-loop-i : goal.invariant-loop-i

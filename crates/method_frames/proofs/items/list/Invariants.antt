@@ -1,4 +1,4 @@
-use Rattle.std.proofs.Common.{◌≡◌, ℕ, ◌≤◌, ◌<◌, length, get_or, true}
+use Rattle.std.proofs.Common.{◌≡◌, ℕ, ◌≤◌, ◌<◌, get_or, true}
 use Rattle.method_frames.specs.Objects.{is_object}
 use Rattle.method_frames.specs.private.Holders.{IsListed, KeepsListed}
 use Rattle.method_frames.proofs.items.list.Given as goal

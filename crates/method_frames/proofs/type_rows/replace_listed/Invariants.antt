@@ -1,4 +1,4 @@
-use Rattle.std.proofs.Common.{◌≡◌, ℕ}
+use Rattle.std.proofs.Common.{ℕ}
 use Rattle.method_frames.specs.private.Holders.{IsOpen, Replaces}
 use Rattle.method_frames.proofs.type_rows.replace_listed.Given as goal
 

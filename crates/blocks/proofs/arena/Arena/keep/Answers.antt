@@ -1,4 +1,4 @@
-use Rattle.std.proofs.Common.{length, subst, rules}
+use Rattle.std.proofs.Common.{subst, rules}
 use Rattle.blocks.specs.private.Arenas.{IsArena}
 use Rattle.blocks.proofs.Arenas.{keeping_arena}
 use Rattle.blocks.proofs.arena.Arena.keep.Goals as goal

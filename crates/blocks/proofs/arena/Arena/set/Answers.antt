@@ -20,16 +20,16 @@ returns-in_err-self-inside-clause-err c =
     kept_rows a.nodes.items c.put.new.nodes.items a.own a.root a.kept a.count a.declared.items c.self.invariant told.tree told.err ∙ c.self.view_is in
     search rules
 
-pub invariant_of-self-then-get-number : goal.invariant_of-self-then-get-number
-invariant_of-self-then-get-number c =
+pub invariant_of-self-2 : goal.invariant_of-self-2
+invariant_of-self-2 c =
     let a = c.self.inside in
     let told = c.in_ok-self-inside.ensures in
     let long = running_length a.nodes.items a.root a.kept a.count a.declared.items c.args.self.now c.self.view_is in
     let lt = c.requires in
     put_arena a.nodes.items c.put.new.nodes.items a.own a.root a.kept a.count c.args.slot c.args.number c.in_ok-self-inside.field-0 a.declared.items c.self.invariant told.tree told.ok (omega (arith, long, lt))
 
-pub returns-in_ok-self-inside-clause-ok : goal.returns-in_ok-self-inside-clause-ok
-returns-in_ok-self-inside-clause-ok c =
+pub returns-clause-ok : goal.returns-clause-ok
+returns-clause-ok c =
     let a = c.self.inside in
     let told = c.in_ok-self-inside.ensures in
     let long = running_length a.nodes.items a.root a.kept a.count a.declared.items c.args.self.now c.self.view_is in

@@ -1,4 +1,4 @@
-use Rattle.std.proofs.Common.{◌≡◌, ◌∙◌, ap, ap₂, sym, arith}
+use Rattle.std.proofs.Common.{◌∙◌, ap, ap₂, arith}
 use Rattle.std.specs.Prelude.{filter}
 use Rattle.std.specs.Ordering.{nat_cmp}
 use Rattle.std.specs.BTreeMap.Range.{range_contains}

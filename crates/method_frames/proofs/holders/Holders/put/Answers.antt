@@ -1,4 +1,4 @@
-use Rattle.std.proofs.Common.{◌≡◌, ◌∙◌, ap, subst, sym, true, arith}
+use Rattle.std.proofs.Common.{◌≡◌, subst, true, arith}
 use Rattle.method_frames.specs.private.Holders.{key_of}
 use Rattle.method_frames.specs.private.Holders.{IsListed, is_among}
 use Rattle.method_frames.proofs.Listing.{among_kept}

@@ -2,7 +2,7 @@ use Rattle.std.proofs.Common.{◌≡◌, ◌∙◌, map, reverse, ap, ap₂, sym
 use Rattle.std.proofs.lemmas.List.{take_all}
 use Rattle.frames.specs.VerificationType.{type_of}
 use Rattle.type_numbers.specs.Decoding.{types_by}
-use Rattle.method_frames.specs.TypeRows.{declared_in}
+use Rattle.method_frames.specs.NumberedRows.{declared_in}
 use Rattle.method_frames.specs.NumberedFrames.{NumberedFrame, NumberedFrames, declared_frame}
 use Rattle.method_frames.proofs.MethodParts.{is_declared, its_frame}
 use Rattle.method_frames.proofs.Typing.{frame_typed}

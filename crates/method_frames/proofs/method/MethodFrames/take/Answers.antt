@@ -1,5 +1,5 @@
 use Rattle.std.proofs.Common.{◌∙◌, length, ap}
-use Rattle.method_frames.specs.TypeRows.{declared_in}
+use Rattle.method_frames.specs.NumberedRows.{declared_in}
 use Rattle.method_frames.proofs.MethodParts.{rows_run, stacks_run, grown, is_declared}
 use Rattle.method_frames.proofs.method.MethodFrames.take.Goals as goal
 

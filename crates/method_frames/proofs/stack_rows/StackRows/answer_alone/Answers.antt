@@ -1,4 +1,4 @@
-use Rattle.std.proofs.Common.{◌≡◌, ◌∙◌, ◌<◌, length, get_or, ap, ap₂, sym, subst}
+use Rattle.std.proofs.Common.{◌≡◌, ◌∙◌, ap, ap₂, sym, subst}
 use Rattle.hierarchy.specs.Answer.{outcome_of}
 use Rattle.frames.specs.Assignable.{type_answer}
 use Rattle.frames.specs.VerificationType.{VerificationType}

@@ -2,7 +2,7 @@ use Rattle.std.proofs.Common.{◌≡◌, map, reverse, take, subst}
 use Rattle.std.specs.Prelude.{IfOk}
 use Rattle.frames.specs.VerificationType.{type_of}
 use Rattle.type_numbers.specs.Decoding.{types_by}
-use Rattle.method_frames.specs.TypeRows.{declared_in}
+use Rattle.method_frames.specs.NumberedRows.{declared_in}
 use Rattle.method_frames.specs.NumberedStacks.{declared_stack}
 use Rattle.method_frames.proofs.Heights.{is_height, its_stack}
 use Rattle.method_frames.proofs.Typing.{stack_typed}

@@ -3,7 +3,7 @@ use Rattle.hierarchy.specs.Answer.{outcome_of, yes}
 use Rattle.frames.specs.Assignable.{type_answer}
 use Rattle.frames.specs.FrameAssignable.{list_answer}
 use Rattle.type_numbers.specs.Decoding.{types_by}
-use Rattle.method_frames.specs.TypeRows.{declared_in}
+use Rattle.method_frames.specs.NumberedRows.{declared_in}
 use Rattle.method_frames.proofs.Holding.{noted_held}
 use Rattle.method_frames.proofs.Walking.{said_known}
 use Rattle.method_frames.proofs.Lacking.{missing_not_yes, row_within, row_lacks, noted_lacking}

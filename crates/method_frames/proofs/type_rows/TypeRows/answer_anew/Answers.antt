@@ -2,7 +2,7 @@ use Rattle.std.proofs.Common.{◌∙◌, ◌+◌, sym, ap, drop}
 use Rattle.hierarchy.specs.Answer.{outcome_of}
 use Rattle.frames.specs.FrameAssignable.{both}
 use Rattle.frames.specs.PackedFrames.{joined}
-use Rattle.method_frames.specs.TypeRows.{declared_in}
+use Rattle.method_frames.specs.NumberedRows.{declared_in}
 use Rattle.method_frames.specs.private.Lacking.{row_answers}
 use Rattle.method_frames.proofs.Walking.{at_no, past, next_within, here_unfit, at_end}
 use Rattle.method_frames.proofs.Lacking.{yes_alone}

@@ -3,7 +3,7 @@ use Rattle.hierarchy.specs.Answer.{outcome_of}
 use Rattle.frames.specs.Assignable.{type_answer}
 use Rattle.type_numbers.specs.Decoding.{type_by}
 use Rattle.type_numbers.proofs.Decoded.{number_read}
-use Rattle.method_frames.specs.TypeRows.{declared_in}
+use Rattle.method_frames.specs.NumberedRows.{declared_in}
 use Rattle.method_frames.proofs.Knowing.{running_given, declared_given}
 use Rattle.method_frames.proofs.type_rows.TypeRows.answer_at.Goals as goal
 

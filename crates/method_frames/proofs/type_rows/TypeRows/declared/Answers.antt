@@ -1,4 +1,4 @@
-use Rattle.std.proofs.Common.{◌<◌, length, ap, sym, subst, arith}
+use Rattle.std.proofs.Common.{◌<◌, length, subst, arith}
 use Rattle.type_numbers.specs.Numbers.{IsGiven}
 use Rattle.method_frames.proofs.Given.{top_given}
 use Rattle.method_frames.proofs.Knowing.{declared_given}

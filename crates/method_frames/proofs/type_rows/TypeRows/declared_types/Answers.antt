@@ -1,7 +1,7 @@
 use Rattle.std.proofs.Common.{subst, arith}
 use Rattle.frames.specs.VerificationType.{type_of}
 use Rattle.type_numbers.specs.Numbers.{IsNumber}
-use Rattle.method_frames.specs.TypeRows.{declared_in}
+use Rattle.method_frames.specs.NumberedRows.{declared_in}
 use Rattle.method_frames.proofs.Knowing.{declared_even}
 use Rattle.method_frames.proofs.Typing.{typed_more}
 use Rattle.method_frames.proofs.type_rows.TypeRows.declared_types.Goals as goal

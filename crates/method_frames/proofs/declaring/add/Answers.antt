@@ -2,7 +2,7 @@ use Rattle.std.proofs.Common.{◌++◌, ◌∷◌, [], subst, sym}
 use Rattle.std.proofs.lemmas.Result.{on_ok_weaker}
 use Rattle.method_frames.specs.MapFrames.{IsLaidOut}
 use Rattle.method_frames.proofs.LayingOut.{laid_more}
-use Rattle.method_frames.proofs.declaring.append.Goals as goal
+use Rattle.method_frames.proofs.declaring.add.Goals as goal
 
 pub returns-clause-laid : goal.returns-clause-laid
 returns-clause-laid g c =
