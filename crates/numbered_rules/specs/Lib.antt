@@ -1,4 +1,5 @@
 pub mod Expected
 pub mod Held
+pub mod Pushing
 pub mod private
 pub mod Running

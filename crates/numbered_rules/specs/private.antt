@@ -3,5 +3,4 @@ pub mod Kinds
 pub mod Named
 pub mod Loading
 pub mod Calls
-pub mod Pushing
 pub mod Taking

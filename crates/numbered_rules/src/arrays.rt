@@ -17,8 +17,8 @@ ghost use Rattle.numbered_rules.specs.Expected.{objects};
 ghost use Rattle.numbered_rules.specs.Held.{held, IsRunning};
 
 use crate::expected::{Expected, holds_references};
-use crate::families::pops;
 use crate::kinds::{NULL, TOP, number_of};
+use crate::shared_rules::pops;
 use classfile::CodeMethod;
 use hierarchy::Classes;
 use insn::{Kind, computed_as};

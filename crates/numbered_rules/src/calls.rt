@@ -19,8 +19,8 @@ ghost use Rattle.numbered_rules.specs.Held.{held, IsRunning};
 
 use crate::arguments::take_arguments;
 use crate::class_names::dimensions;
-use crate::families::settle;
 use crate::named::{NamedMethod, method_at, site_at};
+use crate::shared_rules::settle;
 use classfile::CodeMethod;
 use hierarchy::{Answer, Classes};
 use method_frames::MethodFrames;

@@ -16,9 +16,9 @@ ghost use Rattle.rules.specs.Outcomes.{Done};
 ghost use Rattle.numbered_rules.specs.Held.{held, IsRunning};
 
 use crate::expected::Expected;
-use crate::families::pops;
 use crate::kinds::INT;
 use crate::named::class_at;
+use crate::shared_rules::pops;
 use classfile::CodeMethod;
 use hierarchy::Classes;
 use insn::Kind;

@@ -13,8 +13,8 @@ ghost use Rattle.rules.specs.Bodies.{method_view};
 ghost use Rattle.rules.specs.Outcomes.{Done};
 ghost use Rattle.numbered_rules.specs.Held.{held, IsRunning};
 
-use crate::families::gives;
 use crate::named::{computed_at, loaded_at};
+use crate::shared_rules::gives;
 use classfile::CodeMethod;
 use hierarchy::Classes;
 use method_frames::{MethodFrames, is_wide};

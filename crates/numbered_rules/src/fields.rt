@@ -11,8 +11,8 @@ ghost use Rattle.rules.specs.Outcomes.{Done};
 ghost use Rattle.numbered_rules.specs.Held.{held, IsRunning};
 
 use crate::expected::Expected;
-use crate::families::{gives, pops};
 use crate::named::field_at;
+use crate::shared_rules::{gives, pops};
 use classfile::CodeMethod;
 use hierarchy::Classes;
 use method_frames::MethodFrames;

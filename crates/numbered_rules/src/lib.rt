@@ -8,12 +8,9 @@
 //! - `body`: the code of a method, with what the rules of its instructions ask for.
 //! - `calls`: instructions that call methods; `special_calls`: `invokespecial`.
 //! - `class_names`: casts, and instructions that make arrays of references and of arrays.
-//! - `computing`: instructions that take operands off the stack and push a result, and the loads and stores of numbers
-//!   and references.
 //! - `constants`: instructions that load constants.
 //! - `constructing`: calls of constructors; `making`: `new`.
 //! - `expected`: the expected types of operands, and whether a type meets one.
-//! - `families`: what several families of instructions share; loads and increments.
 //! - `fields`: instructions that read and write fields.
 //! - `kinds`: the numbers of the types that every method may name.
 //! - `named`: the constants that instructions name, by the table of a class's constants.
@@ -23,11 +20,15 @@
 //! - `returning`: returns.
 //! - `rule_numbers`: the numbers of the types that the rules of a method's instructions ask for.
 //! - `running`: the rule of an instruction by its act.
+//! - `shared_rules`: the rules that several instructions share: operands and a result, loads and increments.
 //! - `slots`: local variables in place; `storing`: stores to them.
 //! - `stacks`: instructions that move items of the stack, such as `dup` and `swap`.
+//! - `values`: instructions that take values off the stack and push a result, and the loads and stores of numbers and
+//!   references.
 //!
 //! Definitions: `specs/Expected.antt` has the expected types by numbers, and which expected types of `rules` they stand
-//! for; `specs/Held.antt` the frame that the running frame stands for; `specs/Running.antt` what [`run`] is given.
+//! for; `specs/Held.antt` the frame that the running frame stands for; `specs/Running.antt` what [`run`] is given;
+//! `specs/Pushing.antt` what [`push`] is given.
 #![tactic(auto)]
 
 mod arguments;
@@ -35,11 +36,9 @@ mod arrays;
 mod body;
 mod calls;
 mod class_names;
-mod computing;
 mod constants;
 mod constructing;
 mod expected;
-mod families;
 mod fields;
 mod kinds;
 mod making;
@@ -49,10 +48,12 @@ mod pushing;
 mod returning;
 mod rule_numbers;
 mod running;
+mod shared_rules;
 mod slots;
 mod special_calls;
 mod stacks;
 mod storing;
+mod values;
 
 pub use arguments::take_arguments;
 pub use arrays::{
@@ -61,22 +62,23 @@ pub use arrays::{
 pub use body::Body;
 pub use calls::{invoke_dynamic, invoke_interface, invoke_static, invoke_virtual};
 pub use class_names::{check_cast, instance_of, new_multi_array, new_reference_array};
-pub use computing::{
-    array_length, computes, gives_null, gives_number, loads_number, loads_reference, stores_number,
-    stores_reference, takes_int, takes_ints, takes_nothing, takes_reference, takes_references,
-    throws,
-};
 pub use constants::loads_constant;
 pub use expected::{Asked, Expected};
-pub use families::{counts, give, gives, judge_left, loads, pops, settle};
 pub use fields::{get_field, get_static, put_field, put_static};
 pub use kinds::{DOUBLE, FLOAT, INT, LONG, NULL, TOP, number_of};
 pub use making::new_object;
 pub use named::superclass;
 pub use operands::take;
+pub use pushing::{push, pushed_at_once};
 pub use returning::{return_nothing, return_number, return_reference};
 pub use rule_numbers::{NamedFacts, RuleNumbers};
 pub use running::{run, run_plain};
+pub use shared_rules::{counts, give, gives, judge_left, loads, pops, settle};
 pub use special_calls::invoke_special;
 pub use stacks::rearranges;
 pub use storing::stores;
+pub use values::{
+    array_length, computes, gives_null, gives_number, loads_number, loads_reference, stores_number,
+    stores_reference, takes_int, takes_ints, takes_nothing, takes_reference, takes_references,
+    throws,
+};

@@ -10,8 +10,8 @@ ghost use Rattle.rules.specs.Bodies.{method_view};
 ghost use Rattle.rules.specs.Outcomes.{Done};
 ghost use Rattle.numbered_rules.specs.Held.{held, IsRunning};
 
-use crate::families::give;
 use crate::named::class_named;
+use crate::shared_rules::give;
 use classfile::CodeMethod;
 use hierarchy::{Answer, Classes};
 use method_frames::{MethodFrames, made_object};

@@ -1,21 +1,27 @@
 //! Instructions that take no operand and push one type, where the numbers of types tell at once that they may.
-ghost use Rattle.std.specs.Prelude.{◌≡◌, ◌≤◌, length, IfSome};
+ghost use Rattle.std.specs.Prelude.{◌≡◌, ◌≤◌, ℕ, length, IfSome};
 ghost use Rattle.insn.specs.Operators.{stack_forms};
 ghost use Rattle.insn.specs.declared.stack.StackOperator.TheVariants.{Dup};
 ghost use Rattle.insn.specs.Views.{act_view};
-ghost use Rattle.rules.specs.TypingRules.{ExpectedType, loads, rearranges};
+ghost use Rattle.rules.specs.TypingRules.{ExpectedType, TypingRule, loads, rearranges};
 ghost use Rattle.rules.specs.Table.{typing_rule};
+ghost use Rattle.rules.specs.After.{after};
+ghost use Rattle.rules.specs.Rules.{conditions};
 ghost use Rattle.rules.specs.Bodies.{method_view};
+ghost use Rattle.rules.specs.Outcomes.{Done};
 ghost use Rattle.numbered_rules.specs.Expected.{IsExpected, StandsFor};
-ghost use Rattle.numbered_rules.specs.private.Pushing.{IsPush};
+ghost use Rattle.numbered_rules.specs.Held.{held, IsRunning};
+ghost use Rattle.numbered_rules.specs.Pushing.{IsPush};
 
 use crate::expected::Expected;
 use crate::kinds::{NULL, number_of};
+use crate::shared_rules::give;
 use crate::stacks::is_narrow;
 use classfile::CodeMethod;
-use hierarchy::Classes;
+use hierarchy::{Answer, Classes};
 use insn::{Act, StackOperator};
 use method_frames::MethodFrames;
+use rules::Reason;
 use type_numbers::Parts;
 
 /// The number in a local variable, where that is in range and the number tells at once that its type is the expected
@@ -84,4 +90,21 @@ pub fn pushed_at_once<C: Classes>(
         Act::Stack(StackOperator::Dup) => top_pushed(method, frames),
         _ => None,
     }
+}
+
+/// Pushes the type of a number, where a rule asks for no more than that the stack has room for it: 65 where it has not,
+/// and 1 where memory runs out.
+#[inline(always)]
+pub fn push<'n, C: Classes>(
+    method: &CodeMethod<'_, '_>,
+    number: u32,
+    frames: &mut MethodFrames<'_, '_, 'n, C>,
+) -> Result<(), Reason<'n>>
+    requires { (p : TypingRule) × IsPush (method_view method.now) p frames.old number }
+    ensures done { (at : ℕ) (p : TypingRule) → let m = method_view method.now in let f = held frames.old in
+        IsPush m p frames.old number
+        → Done (conditions frames.old.types.classes m at p f) (after m at p f) (held frames.new) result }
+    ensures rest { IsRunning frames.old frames.new }
+{
+    give(method, Answer::Yes, number, frames)
 }

@@ -11,7 +11,7 @@ ghost use Rattle.rules.specs.Outcomes.{Done};
 ghost use Rattle.numbered_rules.specs.Held.{held, IsRunning};
 
 use crate::expected::{Expected, is_reference};
-use crate::families::{judge_left, pops};
+use crate::shared_rules::{judge_left, pops};
 use classfile::CodeMethod;
 use hierarchy::{Answer, Classes};
 use insn::Kind;

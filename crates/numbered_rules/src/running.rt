@@ -17,22 +17,21 @@ use crate::arrays::{
 use crate::body::Body;
 use crate::calls::{invoke_dynamic, invoke_interface, invoke_static, invoke_virtual};
 use crate::class_names::{check_cast, instance_of, new_multi_array, new_reference_array};
-use crate::computing::{
+use crate::constants::loads_constant;
+use crate::fields::{get_field, get_static, put_field, put_static};
+use crate::making::new_object;
+use crate::returning::{return_nothing, return_number, return_reference};
+use crate::rule_numbers::{NamedFacts, RuleNumbers};
+use crate::shared_rules::counts;
+use crate::special_calls::invoke_special;
+use crate::stacks::rearranges;
+use crate::values::{
     array_length, computes, gives_null, gives_number, loads_number, loads_reference, stores_number,
     stores_reference, takes_int, takes_ints, takes_nothing, takes_reference, takes_references,
     throws,
 };
-use crate::constants::loads_constant;
-use crate::families::{counts, give};
-use crate::fields::{get_field, get_static, put_field, put_static};
-use crate::making::new_object;
-use crate::pushing::pushed_at_once;
-use crate::returning::{return_nothing, return_number, return_reference};
-use crate::rule_numbers::{NamedFacts, RuleNumbers};
-use crate::special_calls::invoke_special;
-use crate::stacks::rearranges;
 use classfile::CodeMethod;
-use hierarchy::{Answer, Classes};
+use hierarchy::Classes;
 use insn::Act;
 use method_frames::MethodFrames;
 use rules::Reason;
@@ -102,31 +101,10 @@ pub fn run<'n, C: Classes>(
     }
 }
 
-/// Runs a plain instruction (see [`is_plain`](rules::is_plain)) as [`run`] does.
-#[inline(always)]
-pub fn run_plain<'n, C: Classes>(
-    method: &CodeMethod<'_, '_>,
-    act: &Act<'_>,
-    numbers: &RuleNumbers<'_>,
-    frames: &mut MethodFrames<'_, '_, 'n, C>,
-) -> Result<(), Reason<'n>>
-    requires locals { length frames.old.running.locals ≡ method.now.code.now.max_locals }
-    requires numbers { AreRuleNumbers frames.old.types (method_view method.now) numbers.now }
-    requires plain { is_plain (act_view act.now) ≡ true }
-    ensures done { (at : ℕ) → let m = method_view method.now in let f = held frames.old in
-        let p = typing_rule m (act_view act.now) in
-        Done (conditions frames.old.types.classes m at p f) (after m at p f) (held frames.new) result }
-    ensures rest { IsRunning frames.old frames.new }
-{
-    match pushed_at_once(method, act, frames) {
-        Some(number) => give(method, Answer::Yes, number, frames),
-        None => run_judged(method, act, numbers, frames),
-    }
-}
-
-/// Runs a plain instruction, whatever it asks for. It stands apart, so that what most instructions take stays small.
+/// Runs a plain instruction (see [`is_plain`](rules::is_plain)) as [`run`] does. It stands apart, so that what most
+/// instructions take stays small.
 #[inline(never)]
-fn run_judged<'n, C: Classes>(
+pub fn run_plain<'n, C: Classes>(
     method: &CodeMethod<'_, '_>,
     act: &Act<'_>,
     numbers: &RuleNumbers<'_>,

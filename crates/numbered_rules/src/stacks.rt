@@ -12,7 +12,7 @@ ghost use Rattle.rules.specs.Outcomes.{Done};
 ghost use Rattle.numbered_rules.specs.Held.{held, IsRunning};
 ghost use Rattle.numbered_rules.specs.private.Kinds.{is_narrow_by};
 
-use crate::families::judge_left;
+use crate::shared_rules::judge_left;
 use classfile::CodeMethod;
 use hierarchy::{Answer, Classes};
 use insn::{StackForm, StackOperator, StackPlace};

@@ -9,7 +9,7 @@ ghost use Rattle.numbered_rules.specs.Expected.{IsExpected, StandsFor};
 ghost use Rattle.numbered_rules.specs.Held.{held, IsRunning};
 
 use crate::expected::Expected;
-use crate::families::judge_left;
+use crate::shared_rules::judge_left;
 use crate::slots::store;
 use classfile::CodeMethod;
 use hierarchy::{Answer, Classes};

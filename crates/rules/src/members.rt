@@ -36,8 +36,10 @@ impl<'k, 'c, 'a, C: Classes> Model for Members<'k, 'c, 'a, C> {
 }
 
 impl<'k, 'c, 'a, C: Classes> Members<'k, 'c, 'a, C> {
-    ghost use Rattle.std.specs.Prelude.{◌≡◌, IfOk};
+    ghost use Rattle.std.specs.Prelude.{◌≡◌, ℕ, List, Some, IfOk};
+    ghost use Rattle.hierarchy.specs.Answer.{SubclassAnswer, yes_if};
     ghost use Rattle.hierarchy.specs.Nearest.{MemberReference, is_guarded};
+    ghost use Rattle.hierarchy.specs.Places.{place_in};
     ghost use Rattle.insn.specs.Views.{act_view};
     ghost use Rattle.rules.specs.Bodies.{method_view};
     ghost use Rattle.pool.specs.ConstantMeanings.{constant_at, field_at};
@@ -117,6 +119,16 @@ impl<'k, 'c, 'a, C: Classes> Members<'k, 'c, 'a, C> {
             IfOk result (λ b. b ≡ is_bootstrapped m (constant_at m.constant_pool index)) }
     {
         is_bootstrapped(&mut self.bootstraps, method, index)
+    }
+
+    /// Whether the class at a place among the classes is that at another place or stands below it, as
+    /// [`Classes::is_below`] says it. No clause says what is answered for a place of no class.
+    #[inline(always)]
+    pub fn is_below(&self, class: u16, other: u16) -> bool
+        ensures { (x y : List ℕ) → place_in self.now.classes x ≡ Some class
+            → place_in self.now.classes y ≡ Some other → SubclassAnswer self.now.classes x y (yes_if result) }
+    {
+        self.classes.is_below(class, other)
     }
 
     /// Whether the constant at an index names a guarded member, if it is a field or a method of a class: a member that

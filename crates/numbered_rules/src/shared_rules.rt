@@ -1,0 +1,200 @@
+//! The rules that several instructions share: operands and a result, loads and increments.
+ghost use Rattle.std.specs.Prelude.{◌≡◌, ◌≤◌, List, [], ◌∷◌, true, length, map, nat_lt, IfSome};
+ghost use Rattle.std.specs.List.{AllZip};
+ghost use Rattle.hierarchy.specs.Answer.{outcome_of};
+ghost use Rattle.frames.specs.Slots.{units_of};
+ghost use Rattle.type_numbers.specs.Numbers.{IsGiven};
+ghost use Rattle.type_numbers.specs.Decoding.{type_by};
+ghost use Rattle.rules.specs.TypingRules.{ExpectedType, pops, loads, counts};
+ghost use Rattle.rules.specs.After.{after};
+ghost use Rattle.rules.specs.Rules.{conditions};
+ghost use Rattle.rules.specs.Bodies.{method_view};
+ghost use Rattle.rules.specs.Outcomes.{Done, pushed, settled};
+ghost use Rattle.numbered_rules.specs.Expected.{AreExpected, IsExpected, StandsFor, types_given};
+ghost use Rattle.numbered_rules.specs.Held.{held, IsRunning};
+
+use crate::expected::{Asked, Expected};
+use crate::kinds::INT;
+use crate::operands::{take, took_at_once};
+use classfile::CodeMethod;
+use hierarchy::{Answer, Classes};
+use method_frames::MethodFrames;
+use rules::Reason;
+
+/// Whether the stack has more units than this.
+#[inline(always)]
+fn is_wider<C: Classes>(limit: u16, frames: &MethodFrames<'_, '_, '_, C>) -> bool
+    ensures { result ≡ nat_lt limit (units_of (held frames.now).stack) }
+{
+    frames.has_units(usize::from(limit) + 1)
+}
+
+/// Judges the frame after an instruction: 65 where its stack is wider than max_stack, and 77 where the answer about the
+/// operands is a missing class. The answer is not no.
+#[inline(always)]
+pub fn judge_left<'n, C: Classes>(
+    method: &CodeMethod<'_, '_>,
+    answer: Answer<'n>,
+    frames: &MethodFrames<'_, '_, 'n, C>,
+) -> Result<(), Reason<'n>>
+    ensures { let f = held frames.now in
+        Done (settled (method_view method.now) (outcome_of answer.entry) f) f f result }
+{
+    if is_wider(method.code.max_stack, frames) {
+        return Err(Reason::StackOver);
+    }
+    match answer {
+        Answer::Missing(name) => Err(Reason::ClassMissing(name)),
+        _ => Ok(()),
+    }
+}
+
+/// Pushes the result of an instruction, and judges the frame after it.
+#[inline(always)]
+pub fn give<'n, C: Classes>(
+    method: &CodeMethod<'_, '_>,
+    answer: Answer<'n>,
+    number: u32,
+    frames: &mut MethodFrames<'_, '_, 'n, C>,
+) -> Result<(), Reason<'n>>
+    requires { IsGiven frames.old.types number }
+    ensures done { let f = pushed (type_by frames.old.types number ∷ []) (held frames.old) in
+        Done (settled (method_view method.now) (outcome_of answer.entry) f) f (held frames.new) result }
+    ensures rest { IsRunning frames.old frames.new }
+{
+    frames.push(number)?;
+    judge_left(method, answer, frames)
+}
+
+/// Pushes the result of an instruction, if it has one, and judges the frame after it.
+#[inline(always)]
+pub fn settle<'n, C: Classes>(
+    method: &CodeMethod<'_, '_>,
+    answer: Answer<'n>,
+    gives: Option<u32>,
+    frames: &mut MethodFrames<'_, '_, 'n, C>,
+) -> Result<(), Reason<'n>>
+    requires { IfSome gives (IsGiven frames.old.types) }
+    ensures done { let f = pushed (types_given frames.old.types gives) (held frames.old) in
+        Done (settled (method_view method.now) (outcome_of answer.entry) f) f (held frames.new) result }
+    ensures rest { IsRunning frames.old frames.new }
+{
+    match gives {
+        Some(number) => give(method, answer, number, frames),
+        None => judge_left(method, answer, frames),
+    }
+}
+
+/// Takes nothing and pushes a result.
+pub fn gives<'n, C: Classes>(
+    method: &CodeMethod<'_, '_>,
+    number: u32,
+    frames: &mut MethodFrames<'_, '_, 'n, C>,
+) -> Result<(), Reason<'n>>
+    requires { IsGiven frames.old.types number }
+    ensures done { let s = frames.old.types in let m = method_view method.now in let f = held frames.old in
+        let p = pops [] (type_by s number ∷ []) [] true in
+        Done (conditions s.classes m 0 p f) (after m 0 p f) (held frames.new) result }
+    ensures rest { IsRunning frames.old frames.new }
+{
+    give(method, Answer::Yes, number, frames)
+}
+
+/// Pops operands of the expected types, the top one first, and pushes a result (JVMS 4.10.1.9). Its refusals are 61
+/// and 62, those of [`judge_left`], and 1 where memory runs out.
+#[inline(always)]
+pub fn pops<'n, A: Asked, C: Classes>(
+    method: &CodeMethod<'_, '_>,
+    asked: &[A],
+    gives: Option<u32>,
+    frames: &mut MethodFrames<'_, '_, 'n, C>,
+) -> Result<(), Reason<'n>>
+    requires asked { AreExpected frames.old.types (map A.asked asked.now) }
+    requires gives { IfSome gives (IsGiven frames.old.types) }
+    ensures done { let s = frames.old.types in let m = method_view method.now in let f = held frames.old in
+        (ws : List ExpectedType) → AllZip (StandsFor s) (map A.asked asked.now) ws
+        → let p = pops ws (types_given s gives) [] true in
+        Done (conditions s.classes m 0 p f) (after m 0 p f) (held frames.new) result }
+    ensures rest { IsRunning frames.old frames.new }
+{
+    if took_at_once(asked, frames) {
+        return settle(method, Answer::Yes, gives, frames);
+    }
+    pops_judged(method, asked, gives, frames)
+}
+
+/// Pops operands of the expected types as [`pops`] does, whatever is asked about their types.
+#[inline(never)]
+fn pops_judged<'n, A: Asked, C: Classes>(
+    method: &CodeMethod<'_, '_>,
+    asked: &[A],
+    gives: Option<u32>,
+    frames: &mut MethodFrames<'_, '_, 'n, C>,
+) -> Result<(), Reason<'n>>
+    requires asked { AreExpected frames.old.types (map A.asked asked.now) }
+    requires gives { IfSome gives (IsGiven frames.old.types) }
+    ensures done { let s = frames.old.types in let m = method_view method.now in let f = held frames.old in
+        (ws : List ExpectedType) → AllZip (StandsFor s) (map A.asked asked.now) ws
+        → let p = pops ws (types_given s gives) [] true in
+        Done (conditions s.classes m 0 p f) (after m 0 p f) (held frames.new) result }
+    ensures rest { IsRunning frames.old frames.new }
+{
+    match take(asked, frames) {
+        None => Err(Reason::MissingOperand),
+        Some(answer) => match answer {
+            Answer::No => Err(Reason::WrongOperand),
+            _ => settle(method, answer, gives, frames),
+        },
+    }
+}
+
+/// Pushes a local variable (JVMS 4.10.1.9). Its refusals are 63 and 64, those of [`judge_left`], and 1 where memory
+/// runs out.
+pub fn loads<'n, C: Classes>(
+    method: &CodeMethod<'_, '_>,
+    ask: Expected,
+    local: u16,
+    width: usize,
+    frames: &mut MethodFrames<'_, '_, 'n, C>,
+) -> Result<(), Reason<'n>>
+    requires locals { length frames.old.running.locals ≡ method.now.code.now.max_locals }
+    requires asked { IsExpected frames.old.types ask }
+    requires some { 1 ≤ width }
+    requires few { width ≤ 2 }
+    ensures done { let s = frames.old.types in let m = method_view method.now in let f = held frames.old in
+        (w : ExpectedType) → StandsFor s ask w → let p = loads w local width in
+        Done (conditions s.classes m 0 p f) (after m 0 p f) (held frames.new) result }
+    ensures rest { IsRunning frames.old frames.new }
+{
+    let place = usize::from(local);
+    if usize::from(method.code.max_locals) < place + width {
+        return Err(Reason::LocalOutOfRange);
+    }
+    let number = frames.local(place);
+    let answer = ask.meets(number, frames.types());
+    match answer {
+        Answer::No => Err(Reason::WrongLocal),
+        _ => give(method, answer, number, frames),
+    }
+}
+
+/// Changes the `int` in a local variable: `iinc` (JVMS 4.10.1.9). Its refusals are those of [`loads`] but 1.
+pub fn counts<'n, C: Classes>(
+    method: &CodeMethod<'_, '_>,
+    local: u16,
+    frames: &MethodFrames<'_, '_, 'n, C>,
+) -> Result<(), Reason<'n>>
+    requires { length frames.now.running.locals ≡ method.now.code.now.max_locals }
+    ensures { let m = method_view method.now in let f = held frames.now in let p = counts local in
+        Done (conditions frames.now.types.classes m 0 p f) (after m 0 p f) f result }
+{
+    let place = usize::from(local);
+    if usize::from(method.code.max_locals) < place + 1 {
+        return Err(Reason::LocalOutOfRange);
+    }
+    let answer = Expected::Assignable(INT).meets(frames.local(place), frames.types());
+    match answer {
+        Answer::No => Err(Reason::WrongLocal),
+        _ => judge_left(method, answer, frames),
+    }
+}
