@@ -1,6 +1,6 @@
 pub mod Elements
 mod Examples
-pub mod Keeping
+pub mod KeptLocals
 pub mod Moving
 pub mod Settling
 pub mod Storing

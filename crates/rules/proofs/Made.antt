@@ -16,7 +16,7 @@ use Rattle.rules.specs.Rules.{constructs_own}
 use Rattle.rules.specs.TypingRules.{ExpectedType, expected_of, arguments_on, TypingRule, pops, loads, stores, counts, rearranges, loads_element, makes, constructs, calls_special, returns, refuses, where_allowed}
 use Rattle.rules.specs.Table.{typing_rule, class_made, made_by}
 use Rattle.rules.specs.Ways.{keeps_locals, special_index}
-use Rattle.rules.proofs.Keeping.{changes_none, by_typing_rule}
+use Rattle.rules.proofs.KeptLocals.{changes_none, by_typing_rule}
 
 no_class : (p : TypingRule) → changes_none p ≡ true → None ≡ class_made p
 no_class (pops expected_types gives offsets on) e = refl

@@ -23,7 +23,7 @@ use Rattle.rules.specs.Ways.{branch_offsets}
 use Rattle.verify.specs.TypeSafety.{Frames}
 use Rattle.verify.specs.Verdict.{answer_conditions, declared_at, one_target, target_conditions, is_covered, before_conditions, at_conditions}
 use Rattle.verify.specs.private.JudgingSteps.{aside_conditions, run_conditions}
-use Rattle.verify.proofs.Going.{IsCalm, IsEarly, ways}
+use Rattle.verify.proofs.Successors.{IsCalm, IsEarly, ways}
 use Rattle.rules.proofs.Lesser.{both_least, judges_alone}
 
 -- ---- reasons that are not a rule's come late

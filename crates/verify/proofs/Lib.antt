@@ -13,7 +13,7 @@ pub mod ToldEntries
 pub mod MapReading
 pub mod Decoded
 pub mod InTurn
-pub mod Going
+pub mod Successors
 pub mod Ends
 pub mod Plain
 pub mod Ways

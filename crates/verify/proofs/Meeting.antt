@@ -40,7 +40,7 @@ use Rattle.verify.specs.Details.{DetailFact, detail_at}
 use Rattle.verify.specs.private.Ran.{IsIf}
 use Rattle.verify.specs.private.Ready.{IsReady}
 use Rattle.verify.proofs.Declared.{full_length}
-use Rattle.verify.proofs.Going.{ways}
+use Rattle.verify.proofs.Successors.{ways}
 use Rattle.verify.proofs.Premises.{not_at}
 
 -- no instruction stands in front of where they begin

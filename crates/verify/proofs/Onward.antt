@@ -27,7 +27,7 @@ use Rattle.rules.specs.declared.reason.Reason.TheVariants.{OutOfMemory}
 use Rattle.verify.specs.TypeSafety.{Frames}
 use Rattle.verify.specs.Verdict.{Verdict, refused, told_of, refused_or, at_conditions, entry, entered, arrives, passes}
 use Rattle.verify.specs.private.JudgingSteps.{Enters}
-use Rattle.verify.proofs.Going.{ways}
+use Rattle.verify.proofs.Successors.{ways}
 
 -- ---- the code that is left
 

@@ -35,7 +35,7 @@ use Rattle.verify.proofs.verdicts.Breaks.{conditions_are_fields, least_held, hol
 use Rattle.verify.proofs.Declared.{none_least}
 use Rattle.verify.proofs.FullFrames.{after_length, declared_full}
 use Rattle.verify.proofs.FoundPlaces.{differs, targets_found, handlers_found, covering_found, refused_found}
-use Rattle.verify.proofs.Going.{IsEarly, IsCalm, ways}
+use Rattle.verify.proofs.Successors.{IsEarly, IsCalm, ways}
 use Rattle.verify.proofs.Meeting.{frames_are, started_length}
 use Rattle.verify.proofs.Premises.{sound_of}
 use Rattle.verify.proofs.verdicts.Refusing.{told}
