@@ -56,6 +56,9 @@ impl Model for Arena {
     ghost invariant = { λ a. IsArena a.nodes.items a.own a.root a.kept a.count a.declared.items };
 }
 
+/// For so many nodes there is room at first, which is as many as the rows of most methods have.
+const FIRST_ROOM: usize = 12;
+
 /// The lowest level of a node that is above as many slots as a method has.
 fn top_of(count: u16) -> u32
     ensures low { result < 4 }
@@ -84,7 +87,7 @@ fn empty_node(level: u32) -> Node
 fn empty_nodes(alloc: Global) -> Result<Vec<Node>, AllocError>
     ensures { IfOk result (λ nodes. AreEmpty nodes.items) }
 {
-    let mut nodes = Vec::new(alloc);
+    let mut nodes = Vec::with_capacity(alloc, FIRST_ROOM)?;
     for level in 0..LEVELS {
         nodes.push(empty_node(level))?;
     }

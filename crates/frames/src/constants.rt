@@ -48,6 +48,7 @@ pub fn type_given<'a>(
 }
 
 /// Whether nothing stands at an index.
+#[inline(always)]
 pub fn is_absent(pool: &Pool<'_>, index: u16) -> bool
     ensures { result ≡ is_absent (entry_at pool.now index) }
 {
@@ -58,6 +59,7 @@ pub fn is_absent(pool: &Pool<'_>, index: u16) -> bool
 }
 
 /// Whether another constant than a class stands at an index.
+#[inline(always)]
 pub fn is_other(pool: &Pool<'_>, index: u16) -> bool
     ensures { result ≡ is_other (entry_at pool.now index) }
 {

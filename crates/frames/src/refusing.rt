@@ -37,6 +37,7 @@ pub enum Wrong {
     MadeNowhere,
 }
 
+#[inline(always)]
 fn is_wrong<S: Starts>(wrong: Wrong, info: TypeInfo, pool: &Pool<'_>, starts: &S) -> bool
     ensures { result ≡ is_wrong wrong pool.now (S.code starts.now) (info_of info) }
 {
@@ -48,6 +49,7 @@ fn is_wrong<S: Starts>(wrong: Wrong, info: TypeInfo, pool: &Pool<'_>, starts: &S
     }
 }
 
+#[inline(always)]
 fn any_wrong<S: Starts>(wrong: Wrong, infos: &[TypeInfo], pool: &Pool<'_>, starts: &S) -> bool
     ensures { result ≡ any_info (is_wrong wrong pool.now (S.code starts.now)) (map info_of infos.now) }
 {
@@ -60,6 +62,7 @@ fn any_wrong<S: Starts>(wrong: Wrong, infos: &[TypeInfo], pool: &Pool<'_>, start
 }
 
 #[tactic(auto, using(crate::proofs::Judging::any_more))]
+#[inline(always)]
 fn has_wrong<S: Starts>(wrong: Wrong, entry: &MapEntry, pool: &Pool<'_>, starts: &S) -> bool
     ensures { result ≡ any_info (is_wrong wrong pool.now (S.code starts.now)) (infos_of (entry_of entry.now)) }
 {

@@ -397,10 +397,12 @@ fn declare_within<St: Starts, C: Classes>(
         (map entry_of entries.now)) }
 {
     append_all(initial, locals, frames)?;
-    if let Err(refused) = declare_all(entries, limits, table, given, locals, frames)? {
-        return Ok(Err(refused));
+    if !entries.is_empty() {
+        if let Err(refused) = declare_all(entries, limits, table, given, locals, frames)? {
+            return Ok(Err(refused));
+        }
+        change_all(initial, locals, frames)?;
     }
-    change_all(initial, locals, frames)?;
     frames.clear_stack();
     frames.set_flag(locals.have_own());
     Ok(Ok(()))

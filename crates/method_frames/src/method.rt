@@ -14,6 +14,12 @@ use std::marker::Model;
 use std::mem;
 use type_numbers::TypeNumbers;
 
+/// For so many declared frames there is room at first.
+const FIRST_FRAMES: usize = 16;
+
+/// For so many offsets there is room at first in the table of places.
+const FIRST_PLACES: usize = 120;
+
 /// A declared frame: its offset, and where its parts are.
 #[derive(Clone, Copy)]
 struct Declared {
@@ -119,8 +125,8 @@ impl<'t, 'c, 'n, C: Classes> MethodFrames<'t, 'c, 'n, C> {
             max_locals,
             stacks: StackRows::new(alloc, types, max_stack)?,
             flag,
-            declared: Vec::new(alloc),
-            places: Vec::new(alloc),
+            declared: Vec::with_capacity(alloc, FIRST_FRAMES)?,
+            places: Vec::with_capacity(alloc, FIRST_PLACES)?,
             memory: MapMemory::new(alloc),
         })
     }

@@ -12,6 +12,10 @@ use std::alloc::{AllocError, Global};
 use std::marker::Model;
 use type_numbers::TypeNumbers;
 
+/// Rows of so many places are compared in less time than it takes to copy one, which a row that was said to fit another
+/// must be before it changes.
+const ONE_BLOCK: usize = 16;
+
 /// A declared row for which a class is missing while the running one stays as it is.
 #[derive(Clone, Copy)]
 struct Lacking<'n> {
@@ -25,8 +29,9 @@ struct Lacking<'n> {
 /// Rows of types by their numbers, such as the local variables of the frames of one method (JVMS 4.10.1.2): the row of
 /// the running frame, those of the declared frames, and one that is kept to tell what changed since.
 ///
-/// Rows share what they have in common ([`Arena`]). A running row that was seen to fit a declared one is compared with
-/// it again only where it changed, so that a comparison takes time for what changed and not for the length of a row.
+/// Rows share what they have in common ([`Arena`]). A running row of more than [`ONE_BLOCK`] places that was seen to fit
+/// a declared one is compared with it again only where it changed, so that a comparison takes time for what changed and
+/// not for the length of a row.
 /// Where a class is missing for a declared row, others are compared only from the place on at which they differ from
 /// that one.
 ///
@@ -356,7 +361,11 @@ impl<'t, 'c, 'n, C: Classes> TypeRows<'t, 'c, 'n, C> {
     {
         let (answer, end) = self.answer_anew(row);
         match answer {
-            Answer::Yes => self.rows.note_fit(row),
+            Answer::Yes => {
+                if self.rows.slots() > ONE_BLOCK {
+                    self.rows.note_fit(row);
+                }
+            }
             Answer::No => {}
             Answer::Missing(name) => self.lacking = Some(Lacking { row, end, name }),
         }
