@@ -128,21 +128,23 @@ fn explain_methods<'a, C: Classes>(
 }
 
 /// The verdicts on the methods of a class that the hierarchy has as it is, and where they are asked for, the frames of
-/// each method that is refused. The numbers of the class's types and the frames serve all methods.
+/// each method that is refused. The numbers of the class's types and the frames serve all methods; the places of the
+/// hierarchy's classes that have numbers serve the classes that are judged next.
 pub fn explain_listed<'a, C: Classes>(
     alloc: Global,
     formed: &Formed<'_, 'a>,
     framed: bool,
-    classes: &C,
+    numbers: &mut TypeNumbers<'_, 'a, C>,
 ) -> Result<Explained<'a>, VerifyFault>
-    requires hierarchy { IsHierarchy (C.content classes.now) }
-    requires listed { IsListed (C.content classes.now) (class_view formed.now.class.now) }
-    ensures found { IfOk result (IsExplained framed (C.content classes.now) (judged_class formed.now)) }
+    requires hierarchy { IsHierarchy numbers.old.classes }
+    requires listed { IsListed numbers.old.classes (class_view formed.now.class.now) }
+    ensures same { numbers.new.classes ≡ numbers.old.classes }
+    ensures found { IfOk result (IsExplained framed numbers.old.classes (judged_class formed.now)) }
     ensures memory { IfErr result (λ e. e ≡ OutOfMemory) }
 {
     let class = formed.class();
-    let mut numbers = TypeNumbers::new(alloc, classes);
-    let types = ClassTypes::new(alloc, class, &mut numbers)?;
-    let mut frames = MethodFrames::new(alloc, &numbers, 0, 0, false)?;
+    numbers.restart();
+    let types = ClassTypes::new(alloc, class, numbers)?;
+    let mut frames = MethodFrames::new(alloc, numbers, 0, 0, false)?;
     explain_methods(alloc, formed, framed, &types, &mut frames)
 }

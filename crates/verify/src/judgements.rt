@@ -12,13 +12,14 @@ ghost use Rattle.verify.specs.declared.judgements.EachFault.TheVariants.{OutOfMe
 
 use crate::files::{FileFault, FileRead, class_in, formed};
 use crate::gathering::Gathered;
-use crate::report::{ClassFault, Report, verify_methods};
+use crate::report::{ClassFault, Report, verify_by_numbers};
 use crate::standing::standing;
 use classfile::Profile;
 use hierarchy::{Classes, HierarchyFault, Prepared, Rows, Summary, name_of};
 use std::alloc::{AllocError, AllocFailed, Global};
 use std::hash::BuildHasher;
 use thiserror::Error;
+use type_numbers::TypeNumbers;
 
 /// The answer about a file that is to be a class.
 #[derive(Debug, Drop)]
@@ -83,9 +84,10 @@ fn judge<'a, C: Classes>(
     alloc: Global,
     profile: Profile,
     file: FileRead<'a>,
-    classes: &C,
+    numbers: &mut TypeNumbers<'_, 'a, C>,
 ) -> Result<Judgement<'a>, EachFault<'a>>
-    ensures judged { IfOk result (IsJudged profile (C.content classes.now) (read_of file.entry)) }
+    ensures same { numbers.new.classes ≡ numbers.old.classes }
+    ensures judged { IfOk result (IsJudged profile numbers.old.classes (read_of file.entry)) }
     ensures memory { IfErr result (λ e. e ≡ OutOfMemory) }
 {
     let class = match class_in(alloc, file) {
@@ -97,7 +99,7 @@ fn judge<'a, C: Classes>(
         Err(fault) => return refused(fault),
     };
     let name = name_of(&formed);
-    match verify_methods(alloc, &formed.under(profile), classes) {
+    match verify_by_numbers(alloc, &formed.under(profile), numbers) {
         Ok(report) => Ok(Judgement::Reported { name, report }),
         Err(ClassFault::NotInHierarchy) => Ok(Judgement::NotInHierarchy { name }),
         Err(ClassFault::FinalSuper) => Ok(Judgement::FinalSuper { name }),
@@ -106,7 +108,8 @@ fn judge<'a, C: Classes>(
     }
 }
 
-/// The answers about these files by a profile, in a hierarchy.
+/// The answers about these files by a profile, in a hierarchy. The places of the hierarchy's classes that one of them
+/// names are kept for those behind it.
 fn judge_all<'a, C: Classes>(
     alloc: Global,
     profile: Profile,
@@ -117,8 +120,9 @@ fn judge_all<'a, C: Classes>(
     ensures memory { IfErr result (λ e. e ≡ OutOfMemory) }
 {
     let mut judgements = Vec::with_capacity(alloc, files.len())?;
+    let mut numbers = TypeNumbers::new(alloc, classes);
     for file in files {
-        judgements.push(judge(alloc, profile, *file, classes)?)?;
+        judgements.push(judge(alloc, profile, *file, &mut numbers)?)?;
     }
     Ok(judgements)
 }

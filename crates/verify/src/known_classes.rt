@@ -20,6 +20,7 @@ use hierarchy::{HierarchyFault, Rows, Summary, summary_of};
 use std::alloc::{AllocError, AllocFailed, Global};
 use std::hash::BuildHasher;
 use thiserror::Error;
+use type_numbers::TypeNumbers;
 
 /// Why there are no verdicts on the methods of a class among its known classes.
 #[derive(Clone, Copy, Debug, Error)]
@@ -94,7 +95,8 @@ fn explain_in<'a, S: BuildHasher + Drop>(
     if has_final_super(&summaries[0], &classes) {
         return Err(AmongFault::FinalSuper);
     }
-    match explain_listed(alloc, formed, framed, &classes) {
+    let mut numbers = TypeNumbers::new(alloc, &classes);
+    match explain_listed(alloc, formed, framed, &mut numbers) {
         Ok(explained) => Ok(explained),
         Err(_) => Err(AmongFault::OutOfMemory),
     }

@@ -17,6 +17,7 @@ use classfile::Formed;
 use hierarchy::{Classes, Prepared, name_of, summary_of};
 use std::alloc::{AllocError, AllocFailed, Global};
 use thiserror::Error;
+use type_numbers::TypeNumbers;
 
 /// A rule that a class in play breaks.
 #[derive(Clone, Copy, Debug, PartialEq, Eq)]
@@ -139,12 +140,14 @@ fn judge<'a, C: Classes>(
     formed: &Formed<'_, 'a>,
     class: usize,
     names: &mut MetNames<'a>,
-    classes: &C,
+    numbers: &mut TypeNumbers<'_, 'a, C>,
 ) -> Result<Report<'a>, PlayStop<'a>>
-    ensures { (play : List JudgedClass) → slice_get play class ≡ Some (judged_class formed.now)
+    ensures same { numbers.new.classes ≡ numbers.old.classes }
+    ensures judged { (play : List JudgedClass) → slice_get play class ≡ Some (judged_class formed.now)
         → AreMet play class names.old
-        → Judges (C.content classes.now) play class (judged_class formed.now) names.new result }
+        → Judges numbers.old.classes play class (judged_class formed.now) names.new result }
 {
+    let classes = numbers.classes();
     let summary = summary_of(alloc, formed)?;
     if !has_summary(&summary, classes) {
         let rule = PlayRule::NotInHierarchy;
@@ -158,7 +161,7 @@ fn judge<'a, C: Classes>(
         let rule = PlayRule::ClassInPlayTwice;
         return Err(PlayStop::Broken { class, rule });
     }
-    let Ok(report) = report_listed(alloc, formed, classes) else {
+    let Ok(report) = report_listed(alloc, formed, numbers) else {
         return Err(PlayStop::OutOfMemory);
     };
     match first_refused(&report.methods) {
@@ -172,6 +175,7 @@ fn judge<'a, C: Classes>(
 }
 
 /// The reports on classes in play, judged in turn; or why there are none, with the verdict on a method that is refused.
+/// The places of the hierarchy's classes that one of them names are kept for those behind it.
 fn reports_in_turn<'a, C: Classes>(
     alloc: Global,
     play: &[Formed<'_, 'a>],
@@ -184,8 +188,9 @@ fn reports_in_turn<'a, C: Classes>(
 {
     let mut reports = Vec::with_capacity(alloc, play.len())?;
     let mut names = MetNames::new(alloc);
+    let mut numbers = TypeNumbers::new(alloc, classes);
     for class in 0..play.len() {
-        match judge(alloc, &play[class], class, &mut names, classes) {
+        match judge(alloc, &play[class], class, &mut names, &mut numbers) {
             Ok(report) => reports.push(report)?,
             Err(stop) => return Err(stop),
         }

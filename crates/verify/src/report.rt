@@ -23,6 +23,7 @@ use names::Text;
 use rules::ClassConstants;
 use std::alloc::{AllocError, Global};
 use thiserror::Error;
+use type_numbers::TypeNumbers;
 
 /// A method and the verdict on it.
 #[derive(Clone, Copy, Debug)]
@@ -111,16 +112,41 @@ pub fn report_on<'a, C: Classes>(
 pub fn report_listed<'a, C: Classes>(
     alloc: Global,
     formed: &Formed<'_, 'a>,
-    classes: &C,
+    numbers: &mut TypeNumbers<'_, 'a, C>,
 ) -> Result<Report<'a>, VerifyFault>
-    requires hierarchy { IsHierarchy (C.content classes.now) }
-    requires listed { IsListed (C.content classes.now) (class_view formed.now.class.now) }
-    ensures found { IfOk result (λ r. IsReport (C.content classes.now) (judged_class formed.now) r.methods.items) }
+    requires hierarchy { IsHierarchy numbers.old.classes }
+    requires listed { IsListed numbers.old.classes (class_view formed.now.class.now) }
+    ensures same { numbers.new.classes ≡ numbers.old.classes }
+    ensures found { IfOk result (λ r. IsReport numbers.old.classes (judged_class formed.now) r.methods.items) }
     ensures memory { IfErr result (λ e. e ≡ OutOfMemory) }
 {
-    match explain_listed(alloc, formed, false, classes) {
+    match explain_listed(alloc, formed, false, numbers) {
         Ok(Explained { report, .. }) => Ok(report),
         Err(fault) => Err(fault),
+    }
+}
+
+/// The verdicts on the methods of a class as [`verify_methods`] gives them, by numbers of types that may have served
+/// other classes, and may serve more of them.
+pub fn verify_by_numbers<'a, C: Classes>(
+    alloc: Global,
+    formed: &Formed<'_, 'a>,
+    numbers: &mut TypeNumbers<'_, 'a, C>,
+) -> Result<Report<'a>, ClassFault>
+    ensures same { numbers.new.classes ≡ numbers.old.classes }
+    ensures reported { Reports numbers.old.classes (judged_class formed.now) result }
+{
+    let classes = numbers.classes();
+    let summary = summary_of(alloc, formed)?;
+    if !has_summary(&summary, classes) {
+        return Err(ClassFault::NotInHierarchy);
+    }
+    if has_final_super(&summary, classes) {
+        return Err(ClassFault::FinalSuper);
+    }
+    match report_listed(alloc, formed, numbers) {
+        Ok(report) => Ok(report),
+        Err(_) => Err(ClassFault::OutOfMemory),
     }
 }
 
@@ -135,17 +161,8 @@ pub fn verify_methods<'a, C: Classes>(
 ) -> Result<Report<'a>, ClassFault>
     ensures { Reports (C.content classes.now) (judged_class formed.now) result }
 {
-    let summary = summary_of(alloc, formed)?;
-    if !has_summary(&summary, classes) {
-        return Err(ClassFault::NotInHierarchy);
-    }
-    if has_final_super(&summary, classes) {
-        return Err(ClassFault::FinalSuper);
-    }
-    match report_listed(alloc, formed, classes) {
-        Ok(report) => Ok(report),
-        Err(_) => Err(ClassFault::OutOfMemory),
-    }
+    let mut numbers = TypeNumbers::new(alloc, classes);
+    verify_by_numbers(alloc, formed, &mut numbers)
 }
 
 /// The verdicts on the methods of the class in these bytes, in a hierarchy (JVMS 4.10.1). The first of these refusals

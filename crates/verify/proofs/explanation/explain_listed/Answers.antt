@@ -12,12 +12,12 @@ use Rattle.verify.proofs.explanation.explain_listed.Goals as goal
 
 pub explain_methods-requires-clause-hierarchy : goal.explain_methods-requires-clause-hierarchy
 explain_methods-requires-clause-hierarchy g c =
-    let same = ap (λ (f : NumberedFrames). f.types.classes) c.in_ok-frames.ensures ∙ c.new.ensures.same ∙ c.new-numbers.ensures.classes in
+    let same = ap (λ (f : NumberedFrames). f.types.classes) c.in_ok-frames.ensures ∙ c.new.ensures.same ∙ c.restart.ensures.classes in
     subst IsHierarchy (sym same) c.requires.hierarchy
 
 pub explain_methods-requires-clause-listed : goal.explain_methods-requires-clause-listed
 explain_methods-requires-clause-listed g c =
-    let same = ap (λ (f : NumberedFrames). f.types.classes) c.in_ok-frames.ensures ∙ c.new.ensures.same ∙ c.new-numbers.ensures.classes in
+    let same = ap (λ (f : NumberedFrames). f.types.classes) c.in_ok-frames.ensures ∙ c.new.ensures.same ∙ c.restart.ensures.classes in
     subst (λ classes. IsListed classes (class_view c.args.formed.now.class.now)) (sym same) c.requires.listed
 
 pub explain_methods-requires-clause-types : goal.explain_methods-requires-clause-types
@@ -28,5 +28,5 @@ explain_methods-requires-clause-types g c =
 
 pub returns-clause-found : goal.returns-clause-found
 returns-clause-found g c =
-    let same = ap (λ (f : NumberedFrames). f.types.classes) c.in_ok-frames.ensures ∙ c.new.ensures.same ∙ c.new-numbers.ensures.classes in
+    let same = ap (λ (f : NumberedFrames). f.types.classes) c.in_ok-frames.ensures ∙ c.new.ensures.same ∙ c.restart.ensures.classes in
     subst (λ classes. IfOk c.explain_methods.result (IsExplained c.args.framed classes (judged_class c.args.formed.now))) same c.explain_methods.ensures.found

@@ -6,7 +6,7 @@ use Rattle.classfile.proofs.Places.{take_one_more}
 use Rattle.verify.specs.declared.files.FileRead.{FileRead}
 use Rattle.verify.specs.declared.files.FileRead.TheVariants.{Bytes}
 use Rattle.verify.specs.Files.{read_of}
-use Rattle.verify.specs.Each.{AreJudged}
+use Rattle.verify.specs.Each.{AreJudged, IsJudged}
 use Rattle.verify.proofs.OneMore.{one_more_judged}
 use Rattle.verify.proofs.judgements.judge_all.Goals as goal
 
@@ -24,6 +24,9 @@ loop-file-preserved g c =
     slice_get-map read_of files i ∙ ap (option_map read_of) (slice_get-get_or files i no_read c.loop-file-test.true) in
     let old = c.loop-file.judgements.items in
     let j = c.in_ok-judge.field-0 in
-    subst (AreJudged c.args.profile h (take (i + 1) (map read_of files))) (sym c.in_ok-push.ensures.items)
-    (subst (λ reads. AreJudged c.args.profile h reads (old ++ j ∷ [])) (sym (take_one_more (map read_of files) i read here))
-    (one_more_judged c.args.profile h (take i (map read_of files)) read old j c.loop-file.invariant c.in_ok-judge.ensures.judged))
+    let same : c.loop-file.numbers.classes ≡ h = c.loop-file.invariant.0 in (
+      c.judge.ensures.same ∙ same,
+      subst (AreJudged c.args.profile h (take (i + 1) (map read_of files))) (sym c.in_ok-push.ensures.items)
+      (subst (λ reads. AreJudged c.args.profile h reads (old ++ j ∷ [])) (sym (take_one_more (map read_of files) i read here))
+      (one_more_judged c.args.profile h (take i (map read_of files)) read old j c.loop-file.invariant.1 (subst (λ k. IsJudged c.args.profile k read j) same c.in_ok-judge.ensures.judged))),
+    )
