@@ -23,7 +23,7 @@ use Rattle.type_numbers.specs.declared.text_numbers.Form.TheVariants.{ClassName,
 use Rattle.type_numbers.specs.Numbers.{Numbering, IsNumber, IsNumberOf, Extends}
 use Rattle.type_numbers.specs.Constants.{field_class, field_held, loaded_type}
 use Rattle.type_numbers.specs.private.Readings.{text_type, type_in}
-use Rattle.type_numbers.specs.private.Entries.{IsEntryDescribed, class_as, loaded_as, class_by, field_by, field_of, member_name, name_by, texts_by, member_texts}
+use Rattle.type_numbers.specs.private.Entries.{IsEntryDescribed, class_as, loaded_as, class_by, field_by, field_of, member_name, name_by, names_nothing, texts_by, member_texts}
 use Rattle.type_numbers.proofs.Dimensions.{class_flat, array_dims}
 use Rattle.type_numbers.proofs.LawsOfNumbers.{number_stays}
 
@@ -286,3 +286,12 @@ other_described s row pool (constants.Dynamic x y) n p h = absurd (p.no_dynamic 
 other_described s row pool (constants.InvokeDynamic x y) n p h = absurd (p.no_site x y refl)
 other_described s row pool _ None p h = record { class = tt; field_class = tt; field_held = tt; method_interface = refl; method_init = refl; method_class = tt; method_types = tt; loaded = h; computed = tt; site_special = refl; site = tt }
 other_described s row pool _ (Some n) p h = record { class = tt; field_class = tt; field_held = tt; method_interface = refl; method_init = refl; method_class = tt; method_types = tt; loaded = h; computed = tt; site_special = refl; site = tt }
+
+-- a text, or the name and the descriptor of a member
+pub nothing_described : (s : Numbering) (row : List ℕ) (pool : List Entry) (k : Constant) → names_nothing k ≡ true → IsEntryDescribed s row pool (view k) Other
+nothing_described s row pool (constants.Utf8 text) e = record { class = tt; field_class = tt; field_held = tt; method_interface = refl; method_init = refl; method_class = tt; method_types = tt; loaded = tt; computed = tt; site_special = refl; site = tt }
+nothing_described s row pool (constants.NameAndType name descriptor) e = record { class = tt; field_class = tt; field_held = tt; method_interface = refl; method_init = refl; method_class = tt; method_types = tt; loaded = tt; computed = tt; site_special = refl; site = tt }
+nothing_described s row pool _ e = absurd (apart e)
+  where
+    apart : false ≡ true → ⊥
+    apart e = cc

@@ -6,7 +6,7 @@ ghost use Rattle.pool.specs.Views.{view};
 ghost use Rattle.type_numbers.specs.declared.text_numbers.Form.TheVariants.{ClassName, FieldDescriptor};
 ghost use Rattle.type_numbers.specs.MethodNumbers.{AreTypesOf, GoesOn, method_in, row_of};
 ghost use Rattle.type_numbers.specs.Numbers.{Numbering, Extends, IsNumberOf};
-ghost use Rattle.type_numbers.specs.private.Entries.{IsEntryDescribed, class_as, descriptor_index, dynamic_of, field_of, is_init_named, is_special_named, loaded_as, member_name, member_texts, method_of, site_of};
+ghost use Rattle.type_numbers.specs.private.Entries.{IsEntryDescribed, class_as, descriptor_index, dynamic_of, field_of, is_init_named, is_special_named, loaded_as, member_name, member_texts, method_of, names_nothing, site_of};
 ghost use Rattle.type_numbers.specs.private.Readings.{AreTexts, shared_row, type_in};
 
 use crate::loaded_numbers::LoadedNumbers;
@@ -174,6 +174,16 @@ fn method_of(
     }
 }
 
+/// Whether a constant has no meaning for instructions: it is a text, or the name and the descriptor of a member.
+fn names_nothing(constant: Constant<'_>) -> bool
+    ensures { result ≡ names_nothing constant.entry }
+{
+    match constant {
+        Constant::Utf8(_) | Constant::NameAndType { .. } => true,
+        _ => false,
+    }
+}
+
 impl Texts {
     /// No text was read yet, but the classes of which constants load objects have numbers.
     pub fn new<'a, C: Classes>(
@@ -337,8 +347,8 @@ impl Texts {
         Ok(site_of(is_special_named(pool, name_and_type), types))
     }
 
-    /// A constant of the pool as instructions name it. The only refusal is 1, where memory runs out.
-    pub fn constant<'a, C: Classes>(
+    /// A constant of the pool whose texts, or whose kind, may name types.
+    fn naming<'a, C: Classes>(
         &mut self,
         pool: &Pool<'a>,
         constant: Constant<'a>,
@@ -373,6 +383,26 @@ impl Texts {
             ),
             _ => Ok(loaded_as(self.loaded.of(constant))),
         }
+    }
+
+    /// A constant of the pool as instructions name it. The only refusal is 1, where memory runs out.
+    pub fn constant<'a, C: Classes>(
+        &mut self,
+        pool: &Pool<'a>,
+        constant: Constant<'a>,
+        numbers: &mut TypeNumbers<'_, 'a, C>,
+    ) -> Result<NamedConstant, AllocError>
+        requires { AreTexts numbers.old pool.now self.old }
+        ensures kept { Extends numbers.old numbers.new }
+        ensures texts { OnOk result (AreTexts numbers.new pool.now self.new) }
+        ensures grown { OnOk result (GoesOn (shared_row self.old) (shared_row self.new)) }
+        ensures described { IfOk result (IsEntryDescribed numbers.new (shared_row self.new) pool.now
+            (view constant.entry)) }
+    {
+        if names_nothing(constant) {
+            return Ok(NamedConstant::Other);
+        }
+        self.naming(pool, constant, numbers)
     }
 
     /// The texts as the descriptors of methods.

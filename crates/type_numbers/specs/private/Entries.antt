@@ -5,6 +5,8 @@ use Rattle.names.specs.Descriptors.{FieldDescriptor}
 use Rattle.names.specs.Names.{less_than}
 use Rattle.names.specs.ReferenceTypes.{ReferenceType, reference_type}
 use Rattle.names.specs.StandardNames.{init_name}
+use Rattle.pool.specs.declared.constant.Constant.{Constant}
+use Rattle.pool.specs.declared.constant.Constant.TheVariants as constants
 use Rattle.pool.specs.Entries.{Entry}
 use Rattle.pool.specs.Entries as entries
 use Rattle.pool.specs.Lookups.{text_at, name_and_type_at, member, method}
@@ -54,6 +56,12 @@ meaning_by pool e = record {
 
 abbrev pub IsEntryDescribed : Numbering → List ℕ → List Entry → Entry → NamedConstant → Type 0
 IsEntryDescribed s row pool e c = IsDescribed s row (meaning_by pool e) c
+
+-- a constant that has no meaning for instructions: a text, or the name and the descriptor of a member
+abbrev pub names_nothing : Constant → Bool
+names_nothing (constants.Utf8 text) = true
+names_nothing (constants.NameAndType name descriptor) = true
+names_nothing _ = false
 
 -- the indices of the texts of a member: of the name of its class, and of the descriptor, where its name is a text
 abbrev pub texts_by : Option Entry → Option Entry → (ℕ → Option (List ℕ)) → Option (ℕ × ℕ)
