@@ -65,6 +65,13 @@ fn is_its_own<'n, C: Classes>(
     Ok(numbers.assignable(number, number) == Answer::Yes)
 }
 
+/// Whether a class that is absent gets the first number for absent classes after a restart, and one in the hierarchy its
+/// own number as before.
+fn restarts<'n, C: Classes>(numbers: &mut TypeNumbers<'_, 'n, C>) -> Result<bool, AllocError> {
+    numbers.restart();
+    Ok(is_numbered(numbers, &D, 0x0A00_0000)? && is_numbered(numbers, &A, 0x0700_0001)?)
+}
+
 /// Whether types get their numbers, each of which stands for its type.
 fn agree<C: Classes>(alloc: Global, classes: &C) -> Result<bool, AllocError> {
     let mut numbers = TypeNumbers::new(alloc, classes);
@@ -72,7 +79,7 @@ fn agree<C: Classes>(alloc: Global, classes: &C) -> Result<bool, AllocError> {
     for (vtype, number) in &numbered() {
         fine &= is_numbered(&mut numbers, vtype, *number)? && is_its_own(&mut numbers, vtype)?;
     }
-    Ok(fine)
+    Ok(fine && restarts(&mut numbers)?)
 }
 
 /// At 2 a Class of A, at 6 a Fieldref of a field f of A that holds a java/lang/String, at 9 a Methodref, at 11 a Class
