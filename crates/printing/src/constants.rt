@@ -9,8 +9,8 @@ ghost use Rattle.printing.specs.Json.{fields_then};
 
 use crate::instruction::{Index, Value};
 use crate::json::{Enclosed, More};
-use crate::print::{Number, Print, Then, Word, WriteFailed};
 use crate::names_in::{NameIn, Within};
+use crate::print::{Number, Print, Then, Word, WriteFailed};
 use insn::Operands;
 use pool::{Constant, Pool};
 use std::io::Write;

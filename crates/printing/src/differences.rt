@@ -6,8 +6,8 @@ ghost use Rattle.printing.specs.Json.{fields_then};
 
 use crate::frame::TypeText;
 use crate::json::{Enclosed, More, Quoted};
-use crate::print::{Number, Print, Then, Word, WriteFailed};
 use crate::names_in::Within;
+use crate::print::{Number, Print, Then, Word, WriteFailed};
 use frames::{Difference, Mismatch, Sought};
 use std::io::Write;
 

@@ -11,8 +11,8 @@ ghost use Rattle.printing.specs.Json.{fields_then};
 ghost use Rattle.printing.specs.declared.names_in.Within.TheVariants as within;
 
 use crate::json::{More as MoreFields, Strings};
-use crate::print::{Lines, Number, Print, Then, Word, WriteFailed, put_bytes, put_lines};
 use crate::names_in::{SpelledIn, Within};
+use crate::print::{Lines, Number, Print, Then, Word, WriteFailed, put_bytes, put_lines};
 use frames::{Frame, VType};
 use names::{Base, Primitive};
 use std::io::Write;

@@ -27,6 +27,6 @@ loop-file-preserved g c =
     let same : c.loop-file.numbers.classes ≡ h = c.loop-file.invariant.0 in (
       c.judge.ensures.same ∙ same,
       subst (AreJudged c.args.profile h (take (i + 1) (map read_of files))) (sym c.in_ok-push.ensures.items)
-      (subst (λ reads. AreJudged c.args.profile h reads (old ++ j ∷ [])) (sym (take_one_more (map read_of files) i read here))
-      (one_more_judged c.args.profile h (take i (map read_of files)) read old j c.loop-file.invariant.1 (subst (λ k. IsJudged c.args.profile k read j) same c.in_ok-judge.ensures.judged))),
+          (subst (λ reads. AreJudged c.args.profile h reads (old ++ j ∷ [])) (sym (take_one_more (map read_of files) i read here))
+          (one_more_judged c.args.profile h (take i (map read_of files)) read old j c.loop-file.invariant.1 (subst (λ k. IsJudged c.args.profile k read j) same c.in_ok-judge.ensures.judged))),
     )

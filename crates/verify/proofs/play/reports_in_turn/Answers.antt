@@ -21,7 +21,7 @@ loop-class-preserved g c =
     let old = c.loop-class.reports.items in
     let x = c.in-Ok.report in
     let (hierarchy, fine, met) =
-        subst (λ k. Judges k cs c.loop-class.class (judged_class f) c.judge.new.names (Ok x)) same (c.in-Ok.ensures.judged cs here c.loop-class.invariant.3) in
+    subst (λ k. Judges k cs c.loop-class.class (judged_class f) c.judge.new.names (Ok x)) same (c.in-Ok.ensures.judged cs here c.loop-class.invariant.3) in
     let is : c.push.new.self.items ≡ old ++ x ∷ [] = c.in_ok-push-in-Ok.ensures.items in
     let count : length old ≡ c.loop-class.class = c.loop-class.invariant.1 in
     let last = subst (λ n. (d : JudgedClass) × (slice_get cs n ≡ Some d) × IsFine h cs n d x.methods.items) (sym count) (judged_class f, here, fine) in (
