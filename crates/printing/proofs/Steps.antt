@@ -7,7 +7,7 @@ use Rattle.insn.specs.Instructions.{Instruction}
 use Rattle.insn.specs.Code.{StepsThrough, StepsBy}
 use Rattle.insn.specs.Offsets.{at_offset, by_made}
 use Rattle.insn.specs.CodeResults.{CodeResult, behind}
-use Rattle.insn.proofs.CodeResults.{reading_at, step_reads, stop_reads, end_reads}
+use Rattle.insn.proofs.CodeResults.{result_at, step_reads, stop_reads, end_reads}
 use Rattle.insn.proofs.CodeLaws.{given_step, shorter}
 use Rattle.printing.specs.CodeLines.{fault_of}
 
@@ -16,21 +16,21 @@ fault_of_behind x (Ok xs) = refl
 fault_of_behind x (Err e) = refl
 
 pub step_is : {X : Type 0} (view : X → ℕ × Instruction) (old new : Place) (step : Result X CodeFault) (x : X)
-    → StepsThrough view old (Some step) new → step ≡ Ok x → reading_at old ≡ behind (view x) (reading_at new)
+    → StepsThrough view old (Some step) new → step ≡ Ok x → result_at old ≡ behind (view x) (result_at new)
 step_is view old new step x s is = step_reads view old new x (subst (λ (r : Result _ CodeFault). StepsThrough view old (Some r) new) is s)
 
 pub fault_behind : {X : Type 0} (view : X → ℕ × Instruction) (old new : Place) (step : Result X CodeFault) (x : X)
-    → StepsThrough view old (Some step) new → step ≡ Ok x → fault_of (reading_at old) ≡ fault_of (reading_at new)
-fault_behind view old new step x s is = ap fault_of (step_is view old new step x s is) ∙ fault_of_behind (view x) (reading_at new)
+    → StepsThrough view old (Some step) new → step ≡ Ok x → fault_of (result_at old) ≡ fault_of (result_at new)
+fault_behind view old new step x s is = ap fault_of (step_is view old new step x s is) ∙ fault_of_behind (view x) (result_at new)
 
 pub fault_here : {X : Type 0} (view : X → ℕ × Instruction) (old new : Place) (step : Result X CodeFault) (e : CodeFault)
-    → StepsThrough view old (Some step) new → step ≡ Err e → fault_of (reading_at old) ≡ Some e
+    → StepsThrough view old (Some step) new → step ≡ Err e → fault_of (result_at old) ≡ Some e
 fault_here view old new step e s is = ap fault_of (stop_reads view old new e (subst (λ (r : Result _ CodeFault). StepsThrough view old (Some r) new) is s))
 
-pub end_is : {X : Type 0} (view : X → ℕ × Instruction) (old new : Place) → StepsThrough view old None new → reading_at old ≡ Ok []
+pub end_is : {X : Type 0} (view : X → ℕ × Instruction) (old new : Place) → StepsThrough view old None new → result_at old ≡ Ok []
 end_is view old new s = end_reads view old new s
 
-pub fault_end : {X : Type 0} (view : X → ℕ × Instruction) (old new : Place) → StepsThrough view old None new → fault_of (reading_at old) ≡ None
+pub fault_end : {X : Type 0} (view : X → ℕ × Instruction) (old new : Place) → StepsThrough view old None new → fault_of (result_at old) ≡ None
 fault_end view old new s = ap fault_of (end_reads view old new s)
 
 -- steps that tell of an instruction where it begins
@@ -38,7 +38,7 @@ module _ (old new : Place) (step : Result (ℕ × Option ℕ) CodeFault) (s : St
   through : (x : ℕ × Option ℕ) → step ≡ Ok x → (i : Instruction) × (x ≡ by_made (old.at, i)) × StepsThrough (λ (y : ℕ × Instruction). y) old (Some (Ok (old.at, i))) new
   through x is = given_step (λ (y : ℕ × Option ℕ). y) by_made old new step x s is
 
-  pub start_behind : (x : ℕ × Option ℕ) → step ≡ Ok x → fault_of (reading_at old) ≡ fault_of (reading_at new)
+  pub start_behind : (x : ℕ × Option ℕ) → step ≡ Ok x → fault_of (result_at old) ≡ fault_of (result_at new)
   start_behind x is =
       let (i, same, on) = through x is in
       fault_behind (λ (y : ℕ × Instruction). y) old new (Ok (old.at, i)) (old.at, i) on refl
@@ -49,7 +49,7 @@ module _ (old new : Place) (step : Result (ℕ × Option ℕ) CodeFault) (s : St
       let (here, first, spells, took) = on in
       shorter first i old new spells took
 
-  pub start_here : (e : CodeFault) → step ≡ Err e → fault_of (reading_at old) ≡ Some e
+  pub start_here : (e : CodeFault) → step ≡ Err e → fault_of (result_at old) ≡ Some e
   start_here e is =
       fault_here (λ (y : ℕ × Instruction). y) old new (Err e) e (subst (λ (r : Result (ℕ × Option ℕ) CodeFault). StepsBy (λ (y : ℕ × Option ℕ). y) by_made old (Some r) new) is s) refl
 

@@ -9,7 +9,7 @@ use Rattle.hierarchy.specs.Class.{ClassFact}
 use Rattle.insn.specs.Instructions.{Instruction}
 use Rattle.insn.specs.Meanings.{Act}
 use Rattle.insn.specs.Offsets.{at_offset, acts, IsStart, StartsRise}
-use Rattle.insn.proofs.CodeResults.{reading_at}
+use Rattle.insn.proofs.CodeResults.{result_at}
 use Rattle.frames.specs.declared.frame.Frame.{Frame}
 use Rattle.frames.specs.FrameFact.{FrameFact, frame_of}
 use Rattle.frames.specs.Slots.{in_locals}
@@ -154,7 +154,7 @@ map_is classes m why reason at wide d =
 -- they are these instructions, and with them the frames at the offset are what they are
 pub record Walks (classes : List ClassFact) (m : Method Act) (frames : Frames) (reason at size : ℕ) (p : Place) (coming : Option FrameFact) (total : FramesFact) : Type 0 where
   pub instructions : List (ℕ × Instruction)
-  pub read : reading_at p ≡ Ok instructions
+  pub read : result_at p ≡ Ok instructions
   pub same : total ≡ met_at classes m frames reason at (acts instructions) coming
   pub within : p.at + length p.rest ≡ size
 

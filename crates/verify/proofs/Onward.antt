@@ -13,7 +13,7 @@ use Rattle.insn.specs.Offsets.{at_offset, first_offset, acts, by_act}
 use Rattle.insn.specs.CodeResults.{CodeResult, behind}
 use Rattle.insn.specs.Views.{act_located}
 use Rattle.insn.proofs.CodeLaws.{has_bytes, given_step}
-use Rattle.insn.proofs.CodeResults.{reading_at, step_reads, end_reads, some_left}
+use Rattle.insn.proofs.CodeResults.{result_at, step_reads, end_reads, some_left}
 use Rattle.frames.specs.FrameFact.{FrameFact}
 use Rattle.frames.specs.Conditions.{Reason, Conditions, least}
 use Rattle.rules.specs.TypingRules.{falls}
@@ -97,34 +97,34 @@ enters_straight classes false f declared e q = absurd (cc)
 -- those of all
 pub record Remains (classes : List ClassFact) (m : Method Act) (frames : Frames) (size : ℕ) (p : Place) (comes : Bool) (f : FrameFact) (v : Verdict) : Type 0 where
   pub instructions : List (ℕ × Instruction)
-  pub read : reading_at p ≡ Ok instructions
+  pub read : result_at p ≡ Ok instructions
   pub same : v ≡ left classes m frames (acts instructions) comes f
   pub within : p.at + length p.rest ≡ size
 
 -- the act of the instruction in front of those of the others
 pub record Steps (old new : Place) (x : ℕ × Act) (xs : List (ℕ × Instruction)) : Type 0 where
   pub others : List (ℕ × Instruction)
-  pub read : reading_at new ≡ Ok others
+  pub read : result_at new ≡ Ok others
   pub all : acts xs ≡ x ∷ acts others
 
 stepped : (old new : Place) (y : ℕ × Instruction) (x : ℕ × Act) (xs : List (ℕ × Instruction)) → x ≡ by_act y
-    → (r : CodeResult) → reading_at new ≡ r → behind y r ≡ Ok xs → Steps old new x xs
+    → (r : CodeResult) → result_at new ≡ r → behind y r ≡ Ok xs → Steps old new x xs
 stepped old new y x xs same (Ok ys) now e =
     let all : y ∷ ys ≡ xs = cc in record { others = ys; read = now; all = ap acts (sym all) ∙ ap (λ z. z ∷ acts ys) (sym same) }
 stepped old new y x xs same (Err fault) now e = absurd cc
 
 pub steps : (old new : Place) (x : ℕ × program.Act) (xs : List (ℕ × Instruction))
-    → reading_at old ≡ Ok xs → StepsBy act_located by_act old (Some (Ok x)) new → Steps old new (act_located x) xs
+    → result_at old ≡ Ok xs → StepsBy act_located by_act old (Some (Ok x)) new → Steps old new (act_located x) xs
 steps old new x xs read s =
     let (i, same, t) = given_step act_located by_act old new (Ok x) x s refl in
-    stepped old new (old.at, i) (act_located x) xs same (reading_at new) refl (sym (step_reads (λ (y : ℕ × Instruction). y) old new (old.at, i) t) ∙ read)
+    stepped old new (old.at, i) (act_located x) xs same (result_at new) refl (sym (step_reads (λ (y : ℕ × Instruction). y) old new (old.at, i) t) ∙ read)
 
 -- the step from a place of which the offset was asked
 pub taken_at : (old new : Place) (n : ℕ) (a : program.Act) → n ≡ old.at → StepsBy act_located by_act old (Some (Ok (old.at, a))) new → StepsBy act_located by_act old (Some (Ok (n, a))) new
 taken_at old new n a is s = subst (λ k. StepsBy act_located by_act old (Some (Ok (k, a))) new) (sym is) s
 
 -- nothing is left
-pub at_end : (p : Place) (xs : List (ℕ × Instruction)) → reading_at p ≡ Ok xs → nat_eq (length p.rest) 0 ≡ true → xs ≡ []
+pub at_end : (p : Place) (xs : List (ℕ × Instruction)) → result_at p ≡ Ok xs → nat_eq (length p.rest) 0 ≡ true → xs ≡ []
 at_end p xs read e =
     let none : length p.rest ≡ 0 = grind (arith, nat_tests, e) in
     let both : Ok xs ≡ (let r : CodeResult = Ok [] in r) = sym read ∙ end_reads (λ (y : ℕ × Instruction). y) p p (nil_from_length p.rest none, refl) in cc
@@ -145,10 +145,10 @@ none_left : (bytes : List ℕ) → length bytes ≡ 0 → bytes ≡ []
 none_left [] e = refl
 none_left (b ∷ bytes) e = absurd (omega (arith, e))
 
-pub last_is : (p : Place) (xs : List (ℕ × Instruction)) → reading_at p ≡ Ok xs → is_none (first_offset (acts xs)) ≡ nat_eq (length p.rest) 0
+pub last_is : (p : Place) (xs : List (ℕ × Instruction)) → result_at p ≡ Ok xs → is_none (first_offset (acts xs)) ≡ nat_eq (length p.rest) 0
 last_is p xs read = by xs (nat_eq (length p.rest) 0) refl read
   where
-    by : (ys : List (ℕ × Instruction)) (b : Bool) → nat_eq (length p.rest) 0 ≡ b → reading_at p ≡ Ok ys → is_none (first_offset (acts ys)) ≡ b
+    by : (ys : List (ℕ × Instruction)) (b : Bool) → nat_eq (length p.rest) 0 ≡ b → result_at p ≡ Ok ys → is_none (first_offset (acts ys)) ≡ b
     by [] true e q = refl
     by [] false e q = absurd (some_left p (let lt : 0 < length p.rest = grind (arith, nat_tests, e) in lt) q)
     by (y ∷ ys) false e q = refl

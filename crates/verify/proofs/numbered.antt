@@ -1,4 +1,5 @@
 -- The pass over a method's code, on frames whose types are numbers.
+pub mod Above
 pub mod Alone
 pub mod Finding
 pub mod Following

@@ -7,8 +7,8 @@
 //! - `exceptions`: the exception table, judged and made ready for the pass.
 //! - `handlers`: the exception handlers during the pass.
 //! - `representatives`: frames at handlers that stand for others.
-//! - `members`: the protected member that an instruction uses.
-//! - `judging`: one instruction.
+//! - `members`: the member that an instruction uses on an object, and whether it calls a constructor on the own object.
+//! - `judging`: one instruction, and how much of it is judged.
 //! - `passing`: one pass over the code, which carries one frame.
 //! - `method`: a method, by its stack map, its exception table and then its code.
 //! - `class_types`: the numbers that the types of a class get before the code of its methods is judged.

@@ -94,7 +94,7 @@ module _ (m : Method Act) (i : ℕ) (u : Use) where
       by (Some c) q h = called_by c q c.interface refl c.class refl h
 
 -- that of the constant at the index
-used_at : (m : Method Act) (a : Act) (i : ℕ) → used_index a ≡ Some i → (u : Use) → used_by m a ≡ Some u → IsReference m.constant_pool i u.reference
+pub used_at : (m : Method Act) (a : Act) (i : ℕ) → used_index a ≡ Some i → (u : Use) → used_by m a ≡ Some u → IsReference m.constant_pool i u.reference
 used_at m (acts.GetField j) i at u e = let same : j ≡ i = cc in subst (λ k. IsReference m.constant_pool k u.reference) same (field_used m j u (λ f. []) e)
 used_at m (acts.PutField j) i at u e =
     let same : j ≡ i = cc in subst (λ k. IsReference m.constant_pool k u.reference) same (field_used m j u (λ (f : FieldConstant). f.type ∷ []) e)

@@ -1,4 +1,4 @@
-//! One instruction, and the way in which it is judged.
+//! One instruction, and the scope in which it is judged.
 ghost use Rattle.std.specs.Prelude.{◌≡◌, ◌&&◌, ℕ, [], Option, is_none, length, IsTrue, OnOk};
 ghost use Rattle.insn.specs.Views.{act_view};
 ghost use Rattle.method_frames.specs.MapFrames.{frames_by};
@@ -13,7 +13,7 @@ ghost use Rattle.verify.specs.Verdict.{at_conditions};
 ghost use Rattle.verify.specs.private.JudgingSteps.{run_conditions};
 ghost use Rattle.numbered_rules.specs.Running.{AreRuleNumbers};
 ghost use Rattle.verify.specs.private.pass.Following.{Follows, AreAhead, IsOnward};
-ghost use Rattle.verify.specs.private.pass.Alone.{asks_no_more, IsWay};
+ghost use Rattle.verify.specs.private.pass.Alone.{asks_no_more, IsScope};
 
 use crate::flow::check_end;
 use crate::pass::handlers::Handlers;
@@ -34,13 +34,13 @@ const NO_FACTS: NamedFacts = NamedFacts {
     bootstrapped: true,
 };
 
-/// The way in which an instruction is judged.
-pub enum Way {
-    /// By its rule: it is plain, and nothing else is asked of it.
+/// How much of an instruction is judged.
+pub enum Scope {
+    /// Its rule: it is plain, and nothing else is asked of it.
     Plain,
-    /// By its rule and its targets, with these facts about what it names: nothing else is asked of it.
+    /// Its rule and its targets, with these facts about what it names: nothing else is asked of it.
     Named(NamedFacts),
-    /// By all that is asked of it.
+    /// All that is asked of it.
     Wholly,
 }
 
@@ -146,44 +146,45 @@ fn asks_no_more(act: &Act<'_>) -> bool
     )
 }
 
-/// The way in which an instruction is judged at the offset to which the handlers come: by its rule alone, or the rule
-/// and the targets, where nothing else is asked.
+/// How much of an instruction is judged at the offset to which the handlers come: its rule alone, or the rule and the
+/// targets, where nothing else is asked.
 #[inline(always)]
-pub fn way_of<'a, C: Classes>(
-    method: &CodeMethod<'_, 'a>,
+pub fn scope_of<'a, C: Classes>(
+    body: &Body<'_, 'a>,
     at: u16,
     act: &Act<'a>,
     last: bool,
     constants: &mut ClassConstants<'_, '_, 'a, C>,
     handlers: &mut Handlers,
     frames: &MethodFrames<'_, '_, 'a, C>,
-) -> Way
+) -> Scope
     requires constants { constants.old.members
-        ≡ record { class = method.now.class.now; classes = frames.now.types.classes } }
-    requires handlers { Follows frames.now (method_view method.now).exceptions at handlers.old }
+        ≡ record { class = body.now.method.now.class.now; classes = frames.now.types.classes } }
+    requires numbers { AreRuleNumbers frames.now.types (method_view body.now.method.now) body.now.numbers }
+    requires handlers { Follows frames.now (method_view body.now.method.now).exceptions at handlers.old }
     ensures same { constants.new.members ≡ constants.old.members }
-    ensures handlers { Follows frames.now (method_view method.now).exceptions at handlers.new }
+    ensures handlers { Follows frames.now (method_view body.now.method.now).exceptions at handlers.new }
     ensures ahead { AreAhead at handlers.new }
-    ensures way { IsWay frames.now (method_view method.now) at (act_view act.now) last result }
+    ensures scope { IsScope frames.now (method_view body.now.method.now) at (act_view act.now) last result }
 {
     handlers.come_to(at);
     if falls_off(act, last) {
-        return Way::Wholly;
+        return Scope::Wholly;
     }
     if !handlers.are_idle(at, frames) {
-        return Way::Wholly;
+        return Scope::Wholly;
     }
     if is_plain(act) {
-        return Way::Plain;
+        return Scope::Plain;
     }
     if is_covered_call(at, act, handlers) {
-        return Way::Wholly;
+        return Scope::Wholly;
     }
     if asks_no_more(act) {
-        return Way::Named(NO_FACTS);
+        return Scope::Named(NO_FACTS);
     }
-    match look_up(method, act, constants) {
-        Some(facts) => Way::Named(facts),
-        None => Way::Wholly,
+    match look_up(body, act, constants) {
+        Some(facts) => Scope::Named(facts),
+        None => Scope::Wholly,
     }
 }

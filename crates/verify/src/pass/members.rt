@@ -1,14 +1,16 @@
 //! The protected member that an instruction uses (JVMS 4.10.1.8), and whether it calls a constructor on the own object.
-ghost use Rattle.std.specs.Prelude.{◌≡◌, ◌&&◌, false, ℕ, List, [], drop, is_some, option_map, IfOk, IfSome};
+ghost use Rattle.std.specs.Prelude.{◌≡◌, ◌&&◌, true, false, ℕ, List, [], drop, is_some, option_map, IfOk, IfSome};
 ghost use Rattle.classfile.specs.Methods.{ExceptionEntry};
 ghost use Rattle.hierarchy.specs.Answer.{outcome_of};
+ghost use Rattle.hierarchy.specs.Nearest.{MemberReference, is_guarded};
 ghost use Rattle.insn.specs.OperandStacks.{beneath};
 ghost use Rattle.insn.specs.Views.{act_view};
 ghost use Rattle.frames.specs.DeclaredFrames.{is_uninit_this};
 ghost use Rattle.frames.specs.VerificationType.{VerificationType, class as class_of, type_of};
 ghost use Rattle.method_frames.specs.NumberedFrames.{NumberedFrames};
 ghost use Rattle.pool.specs.ConstantViews.{method_constant_view};
-ghost use Rattle.type_numbers.specs.Numbers.{IsNumber, IsGiven};
+ghost use Rattle.type_numbers.specs.Numbers.{Numbering, IsNumber, IsGiven};
+ghost use Rattle.type_numbers.specs.Constants.{constant_in, constants_of};
 ghost use Rattle.type_numbers.specs.Decoding.{type_by};
 ghost use Rattle.rules.specs.TypingRules.{arguments_on};
 ghost use Rattle.rules.specs.After.{top_of};
@@ -21,9 +23,10 @@ ghost use Rattle.rules.specs.Rules.{constructs_own};
 ghost use Rattle.rules.specs.Table.{typing_rule};
 ghost use Rattle.rules.specs.Ways.{special_index};
 ghost use Rattle.numbered_rules.specs.Held.{held};
+ghost use Rattle.numbered_rules.specs.Running.{AreRuleNumbers};
 ghost use Rattle.verify.specs.Verdict.{is_covered};
 ghost use Rattle.verify.specs.private.pass.Following.{Follows, AreAhead};
-ghost use Rattle.verify.specs.private.pass.Objects.{is_array_type, used_index, AnswersUse, UsesGuarded};
+ghost use Rattle.verify.specs.private.pass.Objects.{is_array_type, member_class_of, used_index, AnswersUse, UsesGuarded};
 
 use crate::pass::handlers::Handlers;
 use classfile::CodeMethod;
@@ -31,11 +34,11 @@ use frames::{VType, is_own};
 use hierarchy::{Answer, Classes};
 use insn::Act;
 use method_frames::MethodFrames;
-use numbered_rules::{NamedFacts, TOP};
+use numbered_rules::{Body, NamedFacts, TOP};
 use pool::MethodConstant;
 use rules::{ClassConstants, Reason, Use, check_object, is_constructor, special_index, used_by};
 use std::alloc::AllocError;
-use type_numbers::TypeNumbers;
+use type_numbers::{ConstantTable, NamedConstant, Parts, TypeNumbers};
 
 /// The type of the item of the running frame's stack that so many stand above; top where there is none.
 fn item_beneath<'n, C: Classes>(above: usize, frames: &MethodFrames<'_, '_, 'n, C>) -> u32
@@ -87,20 +90,77 @@ fn used_index(act: &Act<'_>) -> Option<u16>
 
 /// Whether the member is guarded that an instruction uses on an object, if it uses one. The only refusal: memory ran
 /// out.
-#[inline(always)]
 fn uses_guarded<'a, C: Classes>(
-    _method: &CodeMethod<'_, 'a>,
+    method: &CodeMethod<'_, 'a>,
     act: &Act<'a>,
     constants: &mut ClassConstants<'_, '_, 'a, C>,
 ) -> Result<bool, AllocError>
-    requires { constants.old.members.class ≡ _method.now.class.now }
+    requires { constants.old.members.class ≡ method.now.class.now }
     ensures same { constants.new.members ≡ constants.old.members }
-    ensures guarded { IfOk result (AnswersUse constants.old.members.classes (method_view _method.now)
+    ensures guarded { IfOk result (AnswersUse constants.old.members.classes (method_view method.now)
         (act_view act.now)) }
 {
     match used_index(act) {
         None => Ok(false),
         Some(index) => constants.members.is_guarded(index),
+    }
+}
+
+/// The number of the class of the field or the method that the constant at an index names, if it names one.
+#[inline(always)]
+fn member_class(table: &ConstantTable, index: u16) -> Option<u32>
+    ensures { result ≡ member_class_of (constant_in (constants_of table.now) index) }
+{
+    match table.get(index) {
+        NamedConstant::Field { class, .. } => Some(class),
+        NamedConstant::Method { class, .. } => Some(class),
+        _ => None,
+    }
+}
+
+/// Whether a class may stand above the class itself, by the numbers of both. Where it does not, the class may use its
+/// members on any object.
+#[inline(always)]
+fn may_be_above<'a, C: Classes>(
+    class: u32,
+    own: u32,
+    constants: &ClassConstants<'_, '_, 'a, C>,
+) -> bool
+    ensures { (s : Numbering) (r : MemberReference) (name : List ℕ) → s.classes ≡ constants.now.members.classes
+        → IsNumber s class (class_of r.class) → IsNumber s own (class_of name)
+        → result ≡ false → is_guarded s.classes name r ≡ false }
+{
+    if class == own {
+        return false;
+    }
+    let (parts, own_parts) = (Parts::of(class), Parts::of(own));
+    if parts.dims > 0 {
+        return false;
+    }
+    if parts.tag == 7 && own_parts.tag == 7 {
+        return constants.members.is_below(own_parts.rest, parts.rest);
+    }
+    true
+}
+
+/// Whether an instruction may use a guarded member on an object, by the numbers of the class that is asked for the
+/// member and of the class itself.
+#[inline(always)]
+fn may_use_guarded<'a, C: Classes>(
+    body: &Body<'_, 'a>,
+    act: &Act<'a>,
+    constants: &ClassConstants<'_, '_, 'a, C>,
+) -> bool
+    ensures { let m = method_view body.now.method.now in (s : Numbering)
+        → s.classes ≡ constants.now.members.classes → AreRuleNumbers s m body.now.numbers
+        → result ≡ false → AnswersUse s.classes m (act_view act.now) false }
+{
+    let Some(index) = used_index(act) else {
+        return false;
+    };
+    match member_class(body.numbers.table, index) {
+        None => false,
+        Some(class) => may_be_above(class, body.numbers.class, constants),
     }
 }
 
@@ -256,26 +316,49 @@ pub fn is_covered_call(at: u16, act: &Act<'_>, handlers: &Handlers) -> bool
     special_index(act).is_some() && handlers.covers(at)
 }
 
+/// Whether an instruction uses no guarded member on an object. It does not say so where memory ran out.
+#[inline(always)]
+fn uses_no_guarded<'a, C: Classes>(
+    body: &Body<'_, 'a>,
+    act: &Act<'a>,
+    constants: &mut ClassConstants<'_, '_, 'a, C>,
+) -> bool
+    requires { constants.old.members.class ≡ body.now.method.now.class.now }
+    ensures same { constants.new.members ≡ constants.old.members }
+    ensures unguarded { let m = method_view body.now.method.now in result ≡ true → (s : Numbering)
+        → s.classes ≡ constants.old.members.classes → AreRuleNumbers s m body.now.numbers
+        → AnswersUse s.classes m (act_view act.now) false }
+{
+    if !may_use_guarded(body, act, constants) {
+        return true;
+    }
+    match uses_guarded(body.method, act, constants) {
+        Ok(guarded) => !guarded,
+        Err(_) => false,
+    }
+}
+
 /// The facts about what an instruction names, where it uses no guarded member on an object. There are none where memory
 /// ran out.
 #[inline(never)]
 pub fn look_up<'a, C: Classes>(
-    method: &CodeMethod<'_, 'a>,
+    body: &Body<'_, 'a>,
     act: &Act<'a>,
     constants: &mut ClassConstants<'_, '_, 'a, C>,
 ) -> Option<NamedFacts>
-    requires { constants.old.members.class ≡ method.now.class.now }
+    requires { constants.old.members.class ≡ body.now.method.now.class.now }
     ensures same { constants.new.members ≡ constants.old.members }
-    ensures own { IfSome result (λ x. x.own ≡ sets_own (method_view method.now) (act_view act.now)) }
+    ensures own { IfSome result (λ x. x.own ≡ sets_own (method_view body.now.method.now) (act_view act.now)) }
     ensures bootstrapped { IfSome result (λ x. x.bootstrapped
-        ≡ names_bootstrapped (method_view method.now) (act_view act.now)) }
-    ensures unguarded { IfSome result (λ _. AnswersUse constants.old.members.classes (method_view method.now)
-        (act_view act.now) false) }
+        ≡ names_bootstrapped (method_view body.now.method.now) (act_view act.now)) }
+    ensures unguarded { let m = method_view body.now.method.now in IfSome result (λ _. (s : Numbering)
+        → s.classes ≡ constants.old.members.classes → AreRuleNumbers s m body.now.numbers
+        → AnswersUse s.classes m (act_view act.now) false) }
 {
-    let Ok(false) = uses_guarded(method, act, constants) else {
+    if !uses_no_guarded(body, act, constants) {
         return None;
-    };
-    match facts_of(method, act, constants) {
+    }
+    match facts_of(body.method, act, constants) {
         Ok(facts) => Some(facts),
         Err(_) => None,
     }

@@ -15,13 +15,13 @@ ghost use Rattle.verify.specs.private.pass.Following.{Follows, IsOnward};
 
 use crate::pass::entering::{enter, goes_straight};
 use crate::pass::handlers::Handlers;
-use crate::pass::judging::{Way, judge_named, judge_wholly, way_of};
+use crate::pass::judging::{Scope, judge_named, judge_wholly, scope_of};
 use crate::refusal::refuse;
 use crate::verdict::{Verdict, VerifyFault};
 use hierarchy::Classes;
 use insn::Instructions;
 use method_frames::MethodFrames;
-use numbered_rules::{Body, run_plain};
+use numbered_rules::{Body, push, pushed_at_once, run_plain};
 use rules::{ClassConstants, goes_on};
 
 /// Judges code, by one pass over its bytes that carries one frame, the one with which the method begins.
@@ -57,18 +57,23 @@ pub fn pass<'a, C: Classes>(
         }
         let last = code.is_at_end();
         comes = goes_on(act);
-        match way_of(body.method, at, act, last, constants, handlers, frames) {
-            Way::Plain => {
-                if let Err(reason) = run_plain(body.method, act, &body.numbers, frames) {
+        match scope_of(body, at, act, last, constants, handlers, frames) {
+            Scope::Plain => match pushed_at_once(body.method, act, frames) {
+                Some(number) => if let Err(reason) = push(body.method, number, frames) {
                     return refuse(at, reason);
+                },
+                None => {
+                    if let Err(reason) = run_plain(body.method, act, &body.numbers, frames) {
+                        return refuse(at, reason);
+                    }
                 }
-            }
-            Way::Named(facts) => {
+            },
+            Scope::Named(facts) => {
                 if let Err(reason) = judge_named(handlers.alloc, body, at, act, facts, frames) {
                     return refuse(at, reason);
                 }
             }
-            Way::Wholly => {
+            Scope::Wholly => {
                 let judged = judge_wholly(body, at, act, last, constants, handlers, frames);
                 if let Err(reason) = judged {
                     return refuse(at, reason);

@@ -1,12 +1,12 @@
 use Rattle.std.proofs.Common.{ℕ, ◌∙◌, sym, ap}
 use Rattle.insn.specs.Instructions.{Instruction}
-use Rattle.insn.proofs.CodeResults.{reading_at, whole_reading}
+use Rattle.insn.proofs.CodeResults.{result_at, whole_reading}
 use Rattle.printing.specs.CodeLines.{fault_of}
 use Rattle.printing.proofs.Steps.{start_behind, start_shorter, start_here, fault_end}
 use Rattle.printing.proofs.code.code_fault.Goals as goal
 
 pub loop-step-init : goal.loop-step-init
-loop-step-init c = ap fault_of (whole_reading c.args.code.now) ∙ ap (λ p. fault_of (reading_at p)) (sym c.new-instructions.ensures)
+loop-step-init c = ap fault_of (whole_reading c.args.code.now) ∙ ap (λ p. fault_of (result_at p)) (sym c.new-instructions.ensures)
 
 pub loop-step-preserved : goal.loop-step-preserved
 loop-step-preserved c = c.loop-step.invariant ∙ start_behind c.loop-step.instructions c.next_start.new.self c.in-Some.step c.in-Some.ensures _ c.in-Ok.is

@@ -3,10 +3,10 @@ use Rattle.std.proofs.Common.{◌≡◌, ℕ, List, Ok}
 use Rattle.insn.specs.Instructions.{Instruction}
 use Rattle.insn.specs.Offsets.{at_offset}
 use Rattle.insn.specs.CodeResults.{code_result}
-use Rattle.insn.proofs.CodeResults.{reading_at}
+use Rattle.insn.proofs.CodeResults.{result_at}
 use Rattle.printing.proofs.code.find_instruction.Given as goal
 
 abbrev pub invariant-loop-step : goal.invariant-loop-step
 invariant-loop-step l =
     (xs : List (ℕ × Instruction)) → code_result l.code ≡ Ok xs
-    → (left : List (ℕ × Instruction)) × (reading_at l.step-iterator ≡ Ok left) × (at_offset xs l.at ≡ at_offset left l.at)
+    → (left : List (ℕ × Instruction)) × (result_at l.step-iterator ≡ Ok left) × (at_offset xs l.at ≡ at_offset left l.at)

@@ -8,7 +8,7 @@ use Rattle.insn.specs.Meanings.{Act}
 use Rattle.insn.specs.Offsets.{at_offset, acts, by_act}
 use Rattle.insn.specs.CodeResults.{or_none, instructions_in}
 use Rattle.insn.specs.Views.{act_located}
-use Rattle.insn.proofs.CodeResults.{reading_at, whole_reading, only_result, has_instruction}
+use Rattle.insn.proofs.CodeResults.{result_at, whole_reading, only_result, has_instruction}
 use Rattle.frames.specs.FrameFact.{FrameFact}
 use Rattle.method_frames.specs.NumberedFrames.{NumberedFrames}
 use Rattle.method_frames.specs.MapFrames.{frames_by}
@@ -64,7 +64,7 @@ loop-code-init g c =
     record {
       walks = record {
         instructions = instructions_in code;
-        read = ap reading_at c.new-code.ensures ∙ sym (whole_reading code) ∙ only ∙ ap Ok (sym (ap or_none only));
+        read = ap result_at c.new-code.ensures ∙ sym (whole_reading code) ∙ only ∙ ap Ok (sym (ap or_none only));
         same = refl;
         within = omega (arith, all);
       };

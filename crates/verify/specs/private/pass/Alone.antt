@@ -1,4 +1,4 @@
--- The ways in which an instruction is judged.
+-- The scopes in which an instruction is judged.
 use Rattle.std.specs.Prelude.{◌≡◌, ◌&&◌, ℕ, Bool, true, is_none, None}
 use Rattle.classfile.specs.Methods.{Method}
 use Rattle.insn.specs.Meanings.{Act}
@@ -8,8 +8,8 @@ use Rattle.method_frames.specs.MapFrames.{frames_by}
 use Rattle.numbered_rules.specs.Held.{held}
 use Rattle.rules.specs.Naming.{loaded_index, names_bootstrapped, site_index, sets_own}
 use Rattle.rules.specs.Ways.{is_plain}
-use Rattle.verify.specs.declared.pass.judging.Way.{Way}
-use Rattle.verify.specs.declared.pass.judging.Way.TheVariants.{Plain, Named, Wholly}
+use Rattle.verify.specs.declared.pass.judging.Scope.{Scope}
+use Rattle.verify.specs.declared.pass.judging.Scope.TheVariants.{Plain, Named, Wholly}
 use Rattle.verify.specs.private.JudgingSteps.{aside_conditions}
 use Rattle.verify.specs.private.pass.Objects.{used_index}
 
@@ -22,9 +22,9 @@ abbrev pub IsAlone : NumberedFrames → Method Act → ℕ → Act → Bool → 
 IsAlone x m at a last =
     least (aside_conditions x.types.classes m (frames_by x.types x.declared) at a last (held x)) ≡ None
 
--- an instruction may be judged so in the running frame
-abbrev pub IsWay : NumberedFrames → Method Act → ℕ → Act → Bool → Way → Type 0
-IsWay x m at a last Plain = (is_plain a ≡ true) × IsAlone x m at a last
-IsWay x m at a last (Named facts) =
+-- it is enough to judge so much of an instruction in the running frame
+abbrev pub IsScope : NumberedFrames → Method Act → ℕ → Act → Bool → Scope → Type 0
+IsScope x m at a last Plain = (is_plain a ≡ true) × IsAlone x m at a last
+IsScope x m at a last (Named facts) =
     (facts.own ≡ sets_own m a) × (facts.bootstrapped ≡ names_bootstrapped m a) × IsAlone x m at a last
-IsWay x m at a last Wholly = Unit {0}
+IsScope x m at a last Wholly = Unit {0}

@@ -6,6 +6,8 @@ use Rattle.hierarchy.specs.Nearest.{is_guarded}
 use Rattle.insn.specs.Meanings as acts
 use Rattle.insn.specs.Meanings.{Act}
 use Rattle.frames.specs.VerificationType.{VerificationType, array}
+use Rattle.type_numbers.specs.declared.named_constant.NamedConstant.{NamedConstant}
+use Rattle.type_numbers.specs.declared.named_constant.NamedConstant.TheVariants.{Field, Method as CalledMethod}
 use Rattle.rules.specs.Guards.{IsUse}
 use Rattle.rules.specs.Protected.{Use, used_by}
 use Rattle.rules.specs.declared.protected_members.Use as uses
@@ -20,6 +22,12 @@ used_index (acts.GetField i) = Some i
 used_index (acts.PutField i) = Some i
 used_index (acts.InvokeVirtual i) = Some i
 used_index _ = None
+
+-- the number of the class of a field or a method
+abbrev pub member_class_of : NamedConstant → Option ℕ
+member_class_of (Field n held) = Some n
+member_class_of (CalledMethod interface init n types) = Some n
+member_class_of _ = None
 
 -- the answer to whether the member that is used is guarded
 abbrev pub AnswersUse : List ClassFact → Method Act → Act → Bool → Type 0

@@ -7,7 +7,7 @@ use Rattle.insn.specs.Offsets.{acts, at_offset, first_offset}
 use Rattle.insn.specs.CodeResults.{or_none, instructions_in}
 use Rattle.classfile.specs.Methods.{Method}
 use Rattle.insn.specs.Views.{act_located, act_view}
-use Rattle.insn.proofs.CodeResults.{reading_at, whole_reading, only_result, has_instruction}
+use Rattle.insn.proofs.CodeResults.{result_at, whole_reading, only_result, has_instruction}
 use Rattle.method_frames.specs.MapFrames.{frames_by}
 use Rattle.method_frames.specs.NumberedFrames.{NumberedFrames}
 use Rattle.numbered_rules.specs.Held.{held, IsRunning}
@@ -28,7 +28,7 @@ use Rattle.verify.proofs.numbered.Settling.{follows_later}
 use Rattle.verify.proofs.numbered.Running.{onward_on, onward_same, onward_running, entered_from, follows_on, done_from}
 use Rattle.verify.proofs.pass.passing.pass.Given.{Over}
 use Rattle.verify.proofs.pass.passing.pass.Goals as goal
-use Rattle.verify.proofs.pass.passing.pass.Goals.{After-goes_on-comes, After-way_of, After-run_plain, After-judge_named, then-not-goes_straight+in_default, else-not-goes_straight}
+use Rattle.verify.proofs.pass.passing.pass.Goals.{After-goes_on-comes, After-scope_of, After-run_plain, After-push, After-judge_named, then-not-goes_straight+in_default, else-not-goes_straight}
 
 pub loop-code-init : goal.loop-code-init
 loop-code-init g c =
@@ -41,7 +41,7 @@ loop-code-init g c =
     record {
       left = record {
         instructions = instructions_in code;
-        read = ap reading_at c.new-code.ensures ∙ sym (whole_reading code) ∙ only ∙ ap Ok (sym (ap or_none only));
+        read = ap result_at c.new-code.ensures ∙ sym (whole_reading code) ∙ only ∙ ap Ok (sym (ap or_none only));
         same = ap (left classes m frames (acts (instructions_in code)) true) (sym c.requires.initial);
         within = let all = ap (λ (p : Place). p.at + length p.rest) c.new-code.ensures in omega (arith, all);
       };
@@ -94,15 +94,15 @@ returns-in-Err-clause-judged g c =
     c.refuse.ensures v
     (stops_in classes m frames (act_located x) (acts one.others) comes f v same (held c.enter.new.frames) c.enter.result c.in-Err.reason c.in-Err.is entered)
 
-pub way_of-requires-clause-handlers : goal.way_of-requires-clause-handlers
-way_of-requires-clause-handlers g c =
+pub scope_of-requires-clause-handlers : goal.scope_of-requires-clause-handlers
+scope_of-requires-clause-handlers g c =
     let m = method_view c.args.body.now.method.now in
     let here = (step_within c.loop-code.code c.take_act.new.self (c.at-at.result, c.take_act.result) (taken_at c.loop-code.code c.take_act.new.self c.at-at.result c.take_act.result c.at-at.ensures c.take_act.ensures)).0 in
     let before = subst (λ n. Follows c.loop-code.frames m.exceptions n c.loop-code.handlers) here c.loop-code.invariant.handlers in
-    follows_on c.loop-code.frames c.if-not-goes_straight.frames (came g (goal.at.way_of-requires-clause-handlers g c).After-goes_on-comes).1 m.exceptions c.at-at.result c.loop-code.handlers before
+    follows_on c.loop-code.frames c.if-not-goes_straight.frames (came g (goal.at.scope_of-requires-clause-handlers g c).After-goes_on-comes).1 m.exceptions c.at-at.result c.loop-code.handlers before
 
 -- the frame came to the instruction that goes on from it
-abbrev HasCome : (g : Over) → After-way_of g → Type 0
+abbrev HasCome : (g : Over) → After-scope_of g → Type 0
 HasCome g c =
     let x = c.loop-code.frames in Enters x.types.classes c.loop-code.comes (held x) (at_offset (frames_by x.types x.declared) c.at-at.result) (held c.if-not-goes_straight.frames) (Ok tt)
     × IsRunning x c.if-not-goes_straight.frames
@@ -113,11 +113,11 @@ IsDone x m at a last after r =
     (next : Option ℕ) → is_none next ≡ last → let p = typing_rule m a in
     Done (at_conditions x.types.classes m (frames_by x.types x.declared) at a p next (held x)) (frame_after m at p (held x)) (held after) r
 
-abbrev IsDoneHere : (g : Over) → After-way_of g → NumberedFrames → Result Unit Reason → Type 0
+abbrev IsDoneHere : (g : Over) → After-scope_of g → NumberedFrames → Result Unit Reason → Type 0
 IsDoneHere g c = IsDone c.if-not-goes_straight.frames (method_view c.args.body.now.method.now) c.at-at.result (act_view c.take_act.result) c.is_at_end-last.result
 
 -- the instruction is refused
-stops : (g : Over) (c : After-way_of g) → HasCome g c → (after : NumberedFrames) (r : Result Unit Reason) (e : Reason) → r ≡ Err e → IsDoneHere g c after r
+stops : (g : Over) (c : After-scope_of g) → HasCome g c → (after : NumberedFrames) (r : Result Unit Reason) (e : Reason) → r ≡ Err e → IsDoneHere g c after r
     → (let start = c.args.frames.now in (e ≡ OutOfMemory)
     ⊎ (told_of (code_judged typing_rule start.types.classes (method_view c.args.body.now.method.now) (frames_by start.types start.declared)) ≡ Some (c.at-at.result, reason_view e)))
 stops g c come after r e is done =
@@ -142,7 +142,7 @@ stops g c come after r e is done =
     stops_at classes m frames a (acts one.others) comes f v same (held here) (Ok tt) tt refl entered (held after) r e is done_here
 
 -- it is not
-goes : (g : Over) (c : After-way_of g) → HasCome g c → (after : NumberedFrames) (r : Result Unit Reason) (u : Unit {0}) → r ≡ Ok u → IsDoneHere g c after r
+goes : (g : Over) (c : After-scope_of g) → HasCome g c → (after : NumberedFrames) (r : Result Unit Reason) (u : Unit {0}) → r ≡ Ok u → IsDoneHere g c after r
     → (let start = c.args.frames.now in let m = method_view c.args.body.now.method.now in let frames = frames_by start.types start.declared in
     Remains start.types.classes m frames (length c.args.body.now.method.now.code.now.code.now) c.take_act.new.self c.goes_on-comes.result (held after) (code_judged typing_rule start.types.classes m frames))
 goes g c come after r u is done =
@@ -172,7 +172,7 @@ goes g c come after r u is done =
     }
 
 -- the bytes of the instruction are behind it
-moved : (g : Over) (c : After-way_of g) → (c.at-at.result ≤ c.take_act.new.self.at) × (length c.take_act.new.self.rest < length c.loop-code.code.rest)
+moved : (g : Over) (c : After-scope_of g) → (c.at-at.result ≤ c.take_act.new.self.at) × (length c.take_act.new.self.rest < length c.loop-code.code.rest)
 moved g c =
     let within = step_within c.loop-code.code c.take_act.new.self (c.at-at.result, c.take_act.result)
     (taken_at c.loop-code.code c.take_act.new.self c.at-at.result c.take_act.result c.at-at.ensures c.take_act.ensures) in
@@ -187,19 +187,19 @@ plainly g c next is =
     let m = method_view c.args.body.now.method.now in
     let a = act_view c.take_act.result in
     let frames = frames_by x.types x.declared in
-    let way = c.in-Plain.ensures.way in
-    done_alone x.types.classes m frames c.at-at.result (held x) a c.is_at_end-last.result next is way.1 (held c.run_plain.new.frames) c.run_plain.result
-    (ran_nowhere x.types.classes m frames c.at-at.result (held x) a (nowhere a way.0) (held c.run_plain.new.frames) c.run_plain.result (c.run_plain.ensures.done c.at-at.result))
+    let scope = c.in-Plain.ensures.scope in
+    done_alone x.types.classes m frames c.at-at.result (held x) a c.is_at_end-last.result next is scope.1 (held c.run_plain.new.frames) c.run_plain.result
+    (ran_nowhere x.types.classes m frames c.at-at.result (held x) a (nowhere a scope.0) (held c.run_plain.new.frames) c.run_plain.result (c.run_plain.ensures.done c.at-at.result))
 
 pub returns-in-Err-run_plain-clause-judged : goal.returns-in-Err-run_plain-clause-judged
 returns-in-Err-run_plain-clause-judged g c =
     let start = c.args.frames.now in
     let at = goal.at.returns-in-Err-run_plain-clause-judged g c in
     c.refuse-in-Err-run_plain.ensures (code_judged typing_rule start.types.classes (method_view c.args.body.now.method.now) (frames_by start.types start.declared))
-    (stops g at.After-way_of (came g at.After-goes_on-comes) c.run_plain.new.frames c.run_plain.result c.in-Err-run_plain.reason c.in-Err-run_plain.is (plainly g at.After-run_plain))
+    (stops g at.After-scope_of (came g at.After-goes_on-comes) c.run_plain.new.frames c.run_plain.result c.in-Err-run_plain.reason c.in-Err-run_plain.is (plainly g at.After-run_plain))
 
 pub loop-code-smaller-in_default-run_plain : goal.loop-code-smaller-in_default-run_plain
-loop-code-smaller-in_default-run_plain g c = (moved g (goal.at.loop-code-smaller-in_default-run_plain g c).After-way_of).1
+loop-code-smaller-in_default-run_plain g c = (moved g (goal.at.loop-code-smaller-in_default-run_plain g c).After-scope_of).1
 
 pub loop-code-preserved-in_default-run_plain : goal.loop-code-preserved-in_default-run_plain
 loop-code-preserved-in_default-run_plain g c =
@@ -207,13 +207,53 @@ loop-code-preserved-in_default-run_plain g c =
     let x = c.if-not-goes_straight.frames in
     let m = method_view c.args.body.now.method.now in
     record {
-      left = goes g at.After-way_of (came g at.After-goes_on-comes) c.run_plain.new.frames c.run_plain.result c.in_default-run_plain.field-0 c.in_default-run_plain.is (plainly g at.After-run_plain);
+      left = goes g at.After-scope_of (came g at.After-goes_on-comes) c.run_plain.new.frames c.run_plain.result c.in_default-run_plain.field-0 c.in_default-run_plain.is (plainly g at.After-run_plain);
       onward = onward_on c.args.frames.now x c.run_plain.new.frames (onward_here g at.After-goes_on-comes) (onward_running x c.run_plain.new.frames c.run_plain.ensures.rest);
-      constants = c.way_of.ensures.same ∙ c.loop-code.invariant.constants;
+      constants = c.scope_of.ensures.same ∙ c.loop-code.invariant.constants;
       handlers =
-          follows_later c.run_plain.new.frames m.exceptions c.at-at.result c.take_act.new.self.at c.way_of.new.handlers (moved g at.After-way_of).0
-          (follows_on x c.run_plain.new.frames c.run_plain.ensures.rest m.exceptions c.at-at.result c.way_of.new.handlers c.way_of.ensures.handlers);
+          follows_later c.run_plain.new.frames m.exceptions c.at-at.result c.take_act.new.self.at c.scope_of.new.handlers (moved g at.After-scope_of).0
+          (follows_on x c.run_plain.new.frames c.run_plain.ensures.rest m.exceptions c.at-at.result c.scope_of.new.handlers c.scope_of.ensures.handlers);
     }
+
+-- ---- by its rule, which pushes a type at once
+
+pushing : (g : Over) (c : After-push g)
+    → IsDone c.if-not-goes_straight.frames (method_view c.args.body.now.method.now) c.at-at.result (act_view c.take_act.result) c.is_at_end-last.result c.push.new.frames c.push.result
+pushing g c next is =
+    let x = c.if-not-goes_straight.frames in
+    let m = method_view c.args.body.now.method.now in
+    let a = act_view c.take_act.result in
+    let frames = frames_by x.types x.declared in
+    let scope = c.in-Plain.ensures.scope in
+    done_alone x.types.classes m frames c.at-at.result (held x) a c.is_at_end-last.result next is scope.1 (held c.push.new.frames) c.push.result
+    (ran_nowhere x.types.classes m frames c.at-at.result (held x) a (nowhere a scope.0) (held c.push.new.frames) c.push.result (c.push.ensures.done c.at-at.result (typing_rule m a) c.in-Some.ensures))
+
+pub returns-in-Err-push-clause-judged : goal.returns-in-Err-push-clause-judged
+returns-in-Err-push-clause-judged g c =
+    let start = c.args.frames.now in
+    let at = goal.at.returns-in-Err-push-clause-judged g c in
+    c.refuse-in-Err-push.ensures (code_judged typing_rule start.types.classes (method_view c.args.body.now.method.now) (frames_by start.types start.declared))
+    (stops g at.After-scope_of (came g at.After-goes_on-comes) c.push.new.frames c.push.result c.in-Err-push.reason c.in-Err-push.is (pushing g at.After-push))
+
+pub loop-code-smaller-in_default-push : goal.loop-code-smaller-in_default-push
+loop-code-smaller-in_default-push g c = (moved g (goal.at.loop-code-smaller-in_default-push g c).After-scope_of).1
+
+pub loop-code-preserved-in_default-push : goal.loop-code-preserved-in_default-push
+loop-code-preserved-in_default-push g c =
+    let at = goal.at.loop-code-preserved-in_default-push g c in
+    let x = c.if-not-goes_straight.frames in
+    let m = method_view c.args.body.now.method.now in
+    record {
+      left = goes g at.After-scope_of (came g at.After-goes_on-comes) c.push.new.frames c.push.result c.in_default-push.field-0 c.in_default-push.is (pushing g at.After-push);
+      onward = onward_on c.args.frames.now x c.push.new.frames (onward_here g at.After-goes_on-comes) (onward_running x c.push.new.frames c.push.ensures.rest);
+      constants = c.scope_of.ensures.same ∙ c.loop-code.invariant.constants;
+      handlers =
+          follows_later c.push.new.frames m.exceptions c.at-at.result c.take_act.new.self.at c.scope_of.new.handlers (moved g at.After-scope_of).0
+          (follows_on x c.push.new.frames c.push.ensures.rest m.exceptions c.at-at.result c.scope_of.new.handlers c.scope_of.ensures.handlers);
+    }
+
+pub push-requires : goal.push-requires
+push-requires g c = (typing_rule (method_view c.args.body.now.method.now) (act_view c.take_act.result), c.in-Some.ensures)
 
 -- ---- by its rule and its targets
 
@@ -222,7 +262,7 @@ with_targets : (g : Over) (c : After-judge_named g)
 with_targets g c next is =
     let x = c.if-not-goes_straight.frames in
     let m = method_view c.args.body.now.method.now in
-    done_alone x.types.classes m (frames_by x.types x.declared) c.at-at.result (held x) (act_view c.take_act.result) c.is_at_end-last.result next is c.in-Named.ensures.way.2 (held c.judge_named.new.frames)
+    done_alone x.types.classes m (frames_by x.types x.declared) c.at-at.result (held x) (act_view c.take_act.result) c.is_at_end-last.result next is c.in-Named.ensures.scope.2 (held c.judge_named.new.frames)
     c.judge_named.result c.judge_named.ensures.judged
 
 pub returns-in-Err-judge_named-clause-judged : goal.returns-in-Err-judge_named-clause-judged
@@ -230,10 +270,10 @@ returns-in-Err-judge_named-clause-judged g c =
     let start = c.args.frames.now in
     let at = goal.at.returns-in-Err-judge_named-clause-judged g c in
     c.refuse-in-Err-judge_named.ensures (code_judged typing_rule start.types.classes (method_view c.args.body.now.method.now) (frames_by start.types start.declared))
-    (stops g at.After-way_of (came g at.After-goes_on-comes) c.judge_named.new.frames c.judge_named.result c.in-Err-judge_named.reason c.in-Err-judge_named.is (with_targets g at.After-judge_named))
+    (stops g at.After-scope_of (came g at.After-goes_on-comes) c.judge_named.new.frames c.judge_named.result c.in-Err-judge_named.reason c.in-Err-judge_named.is (with_targets g at.After-judge_named))
 
 pub loop-code-smaller-in_default-judge_named : goal.loop-code-smaller-in_default-judge_named
-loop-code-smaller-in_default-judge_named g c = (moved g (goal.at.loop-code-smaller-in_default-judge_named g c).After-way_of).1
+loop-code-smaller-in_default-judge_named g c = (moved g (goal.at.loop-code-smaller-in_default-judge_named g c).After-scope_of).1
 
 pub loop-code-preserved-in_default-judge_named : goal.loop-code-preserved-in_default-judge_named
 loop-code-preserved-in_default-judge_named g c =
@@ -241,12 +281,12 @@ loop-code-preserved-in_default-judge_named g c =
     let x = c.if-not-goes_straight.frames in
     let m = method_view c.args.body.now.method.now in
     record {
-      left = goes g at.After-way_of (came g at.After-goes_on-comes) c.judge_named.new.frames c.judge_named.result c.in_default-judge_named.field-0 c.in_default-judge_named.is (with_targets g at.After-judge_named);
+      left = goes g at.After-scope_of (came g at.After-goes_on-comes) c.judge_named.new.frames c.judge_named.result c.in_default-judge_named.field-0 c.in_default-judge_named.is (with_targets g at.After-judge_named);
       onward = onward_on c.args.frames.now x c.judge_named.new.frames (onward_here g at.After-goes_on-comes) (onward_running x c.judge_named.new.frames c.judge_named.ensures.rest);
-      constants = c.way_of.ensures.same ∙ c.loop-code.invariant.constants;
+      constants = c.scope_of.ensures.same ∙ c.loop-code.invariant.constants;
       handlers =
-          follows_later c.judge_named.new.frames m.exceptions c.at-at.result c.take_act.new.self.at c.way_of.new.handlers (moved g at.After-way_of).0
-          (follows_on x c.judge_named.new.frames c.judge_named.ensures.rest m.exceptions c.at-at.result c.way_of.new.handlers c.way_of.ensures.handlers);
+          follows_later c.judge_named.new.frames m.exceptions c.at-at.result c.take_act.new.self.at c.scope_of.new.handlers (moved g at.After-scope_of).0
+          (follows_on x c.judge_named.new.frames c.judge_named.ensures.rest m.exceptions c.at-at.result c.scope_of.new.handlers c.scope_of.ensures.handlers);
     }
 
 -- ---- by all that is asked of it
@@ -256,20 +296,20 @@ returns-in-Err-judged-clause-judged g c =
     let at = goal.at.returns-in-Err-judged-clause-judged g c in
     let start = c.args.frames.now in
     c.refuse-in-Err-judged.ensures (code_judged typing_rule start.types.classes (method_view c.args.body.now.method.now) (frames_by start.types start.declared))
-    (stops g at.After-way_of (came g at.After-goes_on-comes) c.judge_wholly-judged.new.frames c.judge_wholly-judged.result c.in-Err-judged.reason c.in-Err-judged.is c.judge_wholly-judged.ensures.judged)
+    (stops g at.After-scope_of (came g at.After-goes_on-comes) c.judge_wholly-judged.new.frames c.judge_wholly-judged.result c.in-Err-judged.reason c.in-Err-judged.is c.judge_wholly-judged.ensures.judged)
 
 pub loop-code-smaller : goal.loop-code-smaller
-loop-code-smaller g c = (moved g (goal.at.loop-code-smaller g c).After-way_of).1
+loop-code-smaller g c = (moved g (goal.at.loop-code-smaller g c).After-scope_of).1
 
 pub loop-code-preserved : goal.loop-code-preserved
 loop-code-preserved g c =
     let at = goal.at.loop-code-preserved g c in
     record {
-      left = goes g at.After-way_of (came g at.After-goes_on-comes) c.judge_wholly-judged.new.frames c.judge_wholly-judged.result c.in_default-judged.field-0 c.in_default-judged.is c.judge_wholly-judged.ensures.judged;
+      left = goes g at.After-scope_of (came g at.After-goes_on-comes) c.judge_wholly-judged.new.frames c.judge_wholly-judged.result c.in_default-judged.field-0 c.in_default-judged.is c.judge_wholly-judged.ensures.judged;
       onward = onward_on c.args.frames.now c.if-not-goes_straight.frames c.judge_wholly-judged.new.frames (onward_here g at.After-goes_on-comes) c.judge_wholly-judged.ensures.rest;
-      constants = c.judge_wholly-judged.ensures.same ∙ c.way_of.ensures.same ∙ c.loop-code.invariant.constants;
+      constants = c.judge_wholly-judged.ensures.same ∙ c.scope_of.ensures.same ∙ c.loop-code.invariant.constants;
       handlers =
-          follows_later c.judge_wholly-judged.new.frames (method_view c.args.body.now.method.now).exceptions c.at-at.result c.take_act.new.self.at c.judge_wholly-judged.new.handlers (moved g at.After-way_of).0
+          follows_later c.judge_wholly-judged.new.frames (method_view c.args.body.now.method.now).exceptions c.at-at.result c.take_act.new.self.at c.judge_wholly-judged.new.handlers (moved g at.After-scope_of).0
           c.in_default-judged.ensures.handlers;
     }
 
