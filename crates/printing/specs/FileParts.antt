@@ -1,4 +1,4 @@
--- The part of a file in which a fault of its bytes lies: a constant by its index and its kind, a field or a method by
+-- The part of a file whose bytes are no class, in which the fault lies: a constant by its index and its kind, a field or a method by
 -- its number, each behind two blanks; behind it an attribute by its number; and the fields of an object of JSON that
 -- say this.
 use Rattle.std.specs.Prelude.{ℕ, nat_eq, if◌then◌else◌, List, [], ◌∷◌, ◌++◌, codes, decimal, Option}

@@ -1,5 +1,4 @@
--- The lines of a method's code: an instruction with its offset, its name and its operands in the order of the file
--- (JVMS 6.5).
+-- The line of an instruction: its offset, its name, and its operands in the order of the file (JVMS 6.5).
 use Rattle.std.specs.Prelude.{ℕ, ℤ, pos, ◌+ℤ◌, Bool, true, false, List, [], ◌++◌, codes, decimal}
 use Rattle.std.specs.Fmt.{signed_decimal}
 use Rattle.std.specs.List.{flat_map}

@@ -1,4 +1,4 @@
-//! The lines of a method's code (JVMS 4.7.3).
+//! A method's code by lines, or as fields of an object of JSON (JVMS 4.7.3).
 ghost use Rattle.std.specs.Prelude.{◌≡◌, ℕ, List, [], Ok, map, option_map};
 ghost use Rattle.std.specs.Option.{option_map_or};
 ghost use Rattle.std.specs.List.{flat_map};
@@ -186,8 +186,8 @@ fn put_named<W: Write>(
     }
 }
 
-/// The line of the constant that the instruction names which begins at an offset of code; nothing where it names none,
-/// where none begins there, or where the code is refused.
+/// The line of the constant that is named by the instruction at an offset of code; nothing where it names none, where
+/// no instruction begins there, or where the code is refused.
 #[derive(Clone, Copy)]
 pub struct NamedAt<'p, 'a> {
     pub pool: &'p Pool<'a>,
@@ -247,8 +247,8 @@ fn put_named_field<W: Write, B: Print + Copy>(
     }
 }
 
-/// The constant that the instruction names which begins at an offset of code, as a field, and then what stands behind
-/// it; no field where it names none, where none begins there, or where the code is refused.
+/// The constant that is named by the instruction at an offset of code, as a field, and then what stands behind it; no
+/// field where it names none, where no instruction begins there, or where the code is refused.
 #[derive(Clone, Copy)]
 pub struct NamedFields<'p, 'a, B> {
     pub pool: &'p Pool<'a>,

@@ -1,4 +1,4 @@
-//! The line of a constant of the constant pool (JVMS 4.4).
+//! A constant of the constant pool by a line, or as a field (JVMS 4.4).
 ghost use Rattle.std.specs.Prelude.{◌≡◌, ◌++◌, option_map};
 ghost use Rattle.pool.specs.Views.{view};
 ghost use Rattle.pool.specs.Lookups.{text_at, class_name_at, name_and_type_at};

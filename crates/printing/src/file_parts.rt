@@ -1,4 +1,4 @@
-//! The part of a file in which a fault of its bytes lies, by its lines or by fields of an object of JSON.
+//! The part of a file whose bytes are no class, in which the fault lies, by lines or as fields of an object of JSON.
 ghost use Rattle.std.specs.Prelude.{◌≡◌, [], codes};
 ghost use Rattle.std.specs.Option.{option_map_or};
 ghost use Rattle.printing.specs.FileParts.{kind_behind, tagged_text, numbered_line, place_line, file_part_lines, tagged_fields, attribute_fields, file_part_fields};

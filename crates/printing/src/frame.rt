@@ -184,7 +184,7 @@ fn count_in_use(locals: &[VType<'_>]) -> usize
     count
 }
 
-/// The lines of a frame under a label: its locals without the tops behind the last that is none, its stack from the
+/// The lines of a frame under a label: its locals up to the last that is not top, its stack from the
 /// bottom up, and flagThisUninit where it has the flag.
 #[derive(Clone, Copy)]
 pub struct FrameLines<'f, 'a> {

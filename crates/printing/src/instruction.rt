@@ -302,8 +302,7 @@ fn put_alone<W: Write>(out: &mut W, at: usize, opcode: Opcode) -> Result<(), Wri
     put_beginning(out, at, opcode.mnemonic(), true)
 }
 
-/// Writes the line of an instruction, whether or not it has operands. It stands apart, so that the others go out where
-/// the instructions are gone through.
+/// Writes the line of an instruction with operands. It is not inlined, to keep the loop over the instructions small.
 #[inline(never)]
 fn put_with_operands<W: Write>(out: &mut W, it: Located<'_>) -> Result<(), WriteFailed>
     ensures { Writes (W.contents out.old) (W.contents out.new)

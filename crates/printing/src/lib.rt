@@ -12,12 +12,12 @@
 //! - `json` writes objects of JSON (RFC 8259), field by field
 //! - `faults` writes why something is refused, and where; `fault_fields` writes the same as fields
 //! - `instruction` writes the line of an instruction
-//! - `code` writes the lines of a method's code, and those of one instruction of it
+//! - `code` writes a method's code, one instruction of it, its sizes and its exception table, by lines or as fields
 //! - `frame` writes the lines of a frame, and a frame as fields
 //! - `differences` writes the line of the first difference of two frames, and its fields
-//! - `constants` writes the line of a constant
-//! - `parts` writes the part of a class file at a place, and the attribute of it that is at fault, by lines or as fields
-//! - `file_parts` writes the part of a file in which a fault of its bytes lies, by lines or as fields
+//! - `constants` writes a constant, by a line or as a field
+//! - `parts` writes a part of a class that was decoded and breaks a rule, and its attribute that does, by lines or as fields
+//! - `file_parts` writes a part of a file whose bytes are no class: the one in which the fault lies, by lines or as fields
 //! - `class_attributes` writes the lines of records and sealed classes
 //! - `listing` writes the lines of a class file
 #![tactic(auto)]

@@ -1,4 +1,4 @@
-//! The part of a class file at a place, and the attribute of it that is at fault, by its lines or by fields of an
+//! The part of a decoded class at a place, and the attribute of it that breaks a rule, by lines or as fields of an
 //! object of JSON.
 ghost use Rattle.std.specs.Prelude.{◌≡◌, [], map, slice_get};
 ghost use Rattle.std.specs.Option.{option_map_or};
