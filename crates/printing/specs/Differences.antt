@@ -1,5 +1,5 @@
--- The line of the first difference of a frame that comes from the declared one (JVMS 4.10.1.4), or of the first place
--- at which their comparison asks for a class that is missing, and its fields.
+-- The line of the first place at which an incoming frame differs from the declared one (JVMS 4.10.1.4), or of the first
+-- one at which their comparison asks for a class that is missing, and its fields.
 use Rattle.std.specs.Prelude.{ℕ, List, [], ◌∷◌, ◌++◌, codes, decimal}
 use Rattle.frames.specs.Differences.{MismatchFact, DifferenceFact, flag, local, sizes, item}
 use Rattle.frames.specs.declared.difference.Sought.{Sought}

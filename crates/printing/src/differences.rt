@@ -65,8 +65,8 @@ impl<'a> Print for MismatchLine<'a> {
     }
 }
 
-/// The line of the first difference of a frame that comes from the declared one, or of the first place at which their
-/// comparison asks for a class that is missing.
+/// The line of the first place at which an incoming frame differs from the declared one, or of the first one at which
+/// their comparison asks for a class that is missing.
 #[derive(Clone, Copy)]
 pub struct DifferenceLine<'a> {
     /// The answer of the comparison.

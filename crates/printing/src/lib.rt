@@ -1,5 +1,5 @@
-//! Class files, code, frames and faults as text: lines for people, and fields of objects of JSON for programs. The text is
-//! written piece by piece, and no call takes memory.
+//! Class files, code, frames and faults as text: lines for people, and fields of objects of JSON for programs. The
+//! text is written piece by piece, and no call takes memory.
 //!
 //! Each thing that has a text is a [`Print`], whose text is a function of it (`specs/`), and
 //! writing it writes exactly that, or a beginning of it where a write fails. The calls to know are
@@ -16,8 +16,10 @@
 //! - `frame` writes the lines of a frame, and a frame as fields
 //! - `differences` writes the line of the first difference of two frames, and its fields
 //! - `constants` writes a constant, by a line or as a field
-//! - `parts` writes a part of a class that was decoded and breaks a rule, and its attribute that does, by lines or as fields
-//! - `file_parts` writes a part of a file whose bytes are no class: the one in which the fault lies, by lines or as fields
+//! - `parts` writes a part of a class that was decoded and breaks a rule, and its attribute that does, by lines or as
+//!   fields
+//! - `file_parts` writes a part of a file whose bytes are no class: the one in which the fault lies, by lines or as
+//!   fields
 //! - `class_attributes` writes the lines of records and sealed classes
 //! - `listing` writes the lines of a class file
 #![tactic(auto)]
