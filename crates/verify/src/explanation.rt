@@ -99,7 +99,7 @@ fn explain_methods<'a, C: Classes>(
 {
     let class = formed.class();
     let mut constants = ClassConstants::new(alloc, class, frames.types().classes());
-    let mut methods = Vec::with_capacity(alloc, class.methods.len())?;
+    let mut methods = Vec::new(alloc);
     let mut all = Vec::new(alloc);
     let mut left = MOST_KEPT;
     for number in 0..class.methods.len() {
