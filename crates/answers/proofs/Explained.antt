@@ -1,4 +1,4 @@
--- Explanations of methods, one behind the other.
+-- Explanations of methods, one after the other.
 use Rattle.std.proofs.Common.{◌≡◌, ◌<◌, ◌≤◌, ◌+◌, ℕ, List, [], ◌∷◌, ◌++◌, map, length, drop, slice_index_or, refl, ◌∙◌, ap, inl, inr, arith}
 use Rattle.std.specs.Prelude.{◌⊎◌, min, Option}
 use Rattle.std.proofs.lemmas.Bool.{cases_order}
@@ -17,7 +17,7 @@ module _ {X : Type 0} (view : X → Member) (said : MethodVerdict → Option Cod
   abbrev pub one : X → MethodVerdict → FramesAt → List ℕ
   one m r x = said r (code_of (view m).attributes) (frames_view x)
 
-  -- that of the method at i, in front of those behind it
+  -- that of the method at i, in front of those after it
   pub explained_left : (ms : List X) (rs : List MethodVerdict) (xs : List FramesAt) (i : ℕ) (m : X) (r : MethodVerdict) (x : FramesAt)
       → i < length ms → i < length rs → i < length xs
       → left ms rs xs i ≡ one (slice_index_or ms i m) (slice_index_or rs i r) (slice_index_or xs i x) ++ left ms rs xs (i + 1)

@@ -25,7 +25,7 @@ entry_of (Some (handler place d)) = Some place
 entry_of (Some (entry place)) = Some place
 entry_of _ = None
 
--- ---- in words; the entry of the exception table is shown behind
+-- ---- in words; the entry of the exception table is shown after
 
 abbrev pub placed_line : Sought → List ℕ → DifferenceAtFact → List ℕ
 placed_line sought word d =

@@ -27,7 +27,7 @@ judgement_lines (Refused r) = class_refusal Plain r
 judgement_lines (NotInHierarchy name) = outside_refusal
 judgement_lines (FinalSuper name) = final_super_refusal Plain
 
--- the name of the class behind a blank, where there is a class
+-- the name of the class after a blank, where there is a class
 abbrev pub class_text : Judgement → List ℕ
 class_text (Reported name report) = codes " " ++ spelled_text name.now
 class_text (Refused r) = []

@@ -69,7 +69,7 @@ sentences =
     ∷ (90, codes "BadBootstrap: the class has no bootstrap method for the constant, or one whose handle or arguments may not be used")
     ∷ []
 
--- the texts for faults of stack maps (behind 78) and of code (behind 79)
+-- the texts for faults of stack maps (after 78) and of code (after 79)
 abbrev pub fault_sentences : List (ℕ × List ℕ)
 fault_sentences =
     (2, codes "EndsEarly: the stack map ends within an entry")

@@ -43,7 +43,7 @@ use Rattle.answers.specs.Files.{File, reads_of, refusal_status}
 
 -- ---- texts, in words or as objects of JSON
 
--- the object of a file that is refused as the class to be verified, with this text behind its fields
+-- the object of a file that is refused as the class to be verified, with this text after its fields
 abbrev pub class_object : FileFault → List ℕ → List ℕ
 class_object r rest = object_then (kind (codes "class")) (answer (codes "refused") ∷ refusal_fields r) rest
 
@@ -70,7 +70,7 @@ known_refusal Json position r =
     object_line (kind (codes "known") ∷ (codes "position", number position) ∷ answer (codes "refused")
     ∷ refusal_fields r)
 
--- the name of the class that has the fault, behind a blank, where the fault has one
+-- the name of the class that has the fault, after a blank, where the fault has one
 abbrev pub fault_name : HierarchyFault → List ℕ
 fault_name OutOfMemory = []
 fault_name (ClassTwice name) = codes " " ++ spelled_text name.now
@@ -111,7 +111,7 @@ final_super_refusal Plain = codes "class refused 81\n"
 final_super_refusal Json = object_line
     (kind (codes "class") ∷ answer (codes "refused") ∷ (codes "number", number 81) ∷ [])
 
--- the text behind a reason: the class that is missing, or the number of the fault in a stack map or in code
+-- the text after a reason: the class that is missing, or the number of the fault in a stack map or in code
 abbrev pub reason_ending : Reason → List ℕ
 reason_ending (ClassMissing name) = codes " missing " ++ spelled_text name.now
 reason_ending (BadStackMap fault) = codes " fault " ++ decimal fault
@@ -144,7 +144,7 @@ verdict_line Json r =
     object_line (kind (codes "method") ∷ (codes "name", name r.name.bytes.now)
     ∷ (codes "descriptor", name r.descriptor.bytes.now) ∷ verdict_fields r.verdict)
 
--- the object of a method and its verdict, with this text behind its fields
+-- the object of a method and its verdict, with this text after its fields
 abbrev pub verdict_object : MethodVerdict → List ℕ → List ℕ
 verdict_object r rest =
     object_then (kind (codes "method"))
@@ -165,7 +165,7 @@ is_refusal (Refused at why) = true
 abbrev pub report_status : List MethodVerdict → ℕ
 report_status rs = if list_any (λ r. is_refusal r.verdict) rs then 1 else 0
 
--- ---- in the manner of `verify`, or in that of `explain`, which has the sentence on its number behind each refusal
+-- ---- in the manner of `verify`, or in that of `explain`, which has the sentence on its number after each refusal
 
 -- the text of the part of a file that a refusal is about: of the part of the class that breaks a rule, and of the
 -- attribute of it that does; or of the part in which a fault of the bytes lies

@@ -145,7 +145,7 @@ impl<'a> Print for DetailIf<'a> {
     }
 }
 
-/// The fields of a comparison at a target or a handler, and then what stands behind them.
+/// The fields of a comparison at a target or a handler, and then what stands after them.
 #[derive(Clone, Copy)]
 struct PlacedFields<'a, B> {
     /// `target` or `handler`.
@@ -163,7 +163,7 @@ impl<'a, B: Print + Copy> Print for PlacedFields<'a, B> {
     }
 }
 
-/// The field of the offset of a frame, if there is one, and then what stands behind it.
+/// The field of the offset of a frame, if there is one, and then what stands after it.
 #[derive(Clone, Copy)]
 struct OffsetField<B>(Option<u32>, B);
 
@@ -178,7 +178,7 @@ impl<B: Print + Copy> Print for OffsetField<B> {
     }
 }
 
-/// The fields on what is wrong, and then what stands behind them.
+/// The fields on what is wrong, and then what stands after them.
 #[derive(Clone, Copy)]
 struct DetailFields<'a, B>(Detail<'a>, B);
 
@@ -217,7 +217,7 @@ impl<'a, B: Print + Copy> Print for DetailFields<'a, B> {
     }
 }
 
-/// The fields on what is wrong, if something is, and then what stands behind them.
+/// The fields on what is wrong, if something is, and then what stands after them.
 #[derive(Clone, Copy)]
 pub struct DetailFieldsIf<'a, B>(pub Option<Detail<'a>>, pub B);
 

@@ -221,7 +221,7 @@ impl<'m, 'a> Print for EntryFields<'m, 'a> {
     }
 }
 
-/// The fields of a frame, if there is one, and then the text behind them.
+/// The fields of a frame, if there is one, and then the text after them.
 #[derive(Clone, Copy)]
 struct FrameIf<'r, 'a, B>(Option<&'r Frame<'a>>, B);
 
@@ -243,7 +243,7 @@ impl<'r, 'a, B: Print + Copy> Print for FrameIf<'r, 'a, B> {
     }
 }
 
-/// The fields of a declared frame, if there is one, and then the text behind them.
+/// The fields of a declared frame, if there is one, and then the text after them.
 #[derive(Clone, Copy)]
 struct DeclaredIf<'r, 'a, B>(Option<&'r Frame<'a>>, B);
 
@@ -265,7 +265,7 @@ impl<'r, 'a, B: Print + Copy> Print for DeclaredIf<'r, 'a, B> {
     }
 }
 
-/// The fields of the frame before the instruction at which a method is refused, and then what stands behind them; where
+/// The fields of the frame before the instruction at which a method is refused, and then what stands after them; where
 /// the frame that comes is compared with the declared one, the fields of both.
 #[derive(Clone, Copy)]
 struct FrameFieldsFor<'r, 'a, B> {

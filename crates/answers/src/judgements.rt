@@ -59,7 +59,7 @@ impl<'r, 'a> Print for ClassText<'r, 'a> {
     }
 }
 
-/// The answer about a file, behind a line with its number and the name of its class.
+/// The answer about a file, after a line with its number and the name of its class.
 #[derive(Clone, Copy)]
 struct NumberedLines<'r, 'a> {
     number: usize,
@@ -76,7 +76,7 @@ impl<'r, 'a> Print for NumberedLines<'r, 'a> {
     }
 }
 
-/// The answers about many files, one behind the other.
+/// The answers about many files, one after the other.
 #[derive(Clone, Copy)]
 pub struct JudgementsText<'r, 'a>(pub &'r [Judgement<'a>]);
 

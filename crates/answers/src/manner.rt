@@ -6,6 +6,6 @@ use crate::command::Form;
 pub enum Manner {
     /// `verify`: a line for each verdict, in this form.
     Told(Form),
-    /// `explain`: each refusal, and behind it the sentence on its number, in this form.
+    /// `explain`: each refusal, and after it the sentence on its number, in this form.
     Explained(Form),
 }

@@ -45,7 +45,7 @@ impl Print for Refusal {
     }
 }
 
-/// Why a file is not a well-formed class, as fields of an object, and then the text behind them.
+/// Why a file is not a well-formed class, as fields of an object, and then the text after them.
 #[derive(Clone, Copy)]
 pub struct RefusalFields<B>(pub FileFault, pub B);
 

@@ -140,7 +140,7 @@ fn reason_sentence(reason: &Reason<'_>) -> &'static str
     }
 }
 
-/// The sentence on the fault of a stack map (behind 78) or of code (behind 79) that has this number.
+/// The sentence on the fault of a stack map (after 78) or of code (after 79) that has this number.
 fn fault_sentence(number: u8) -> &'static str
     ensures { result.now ≡ fault_sentence number }
 {
@@ -297,7 +297,7 @@ impl<'a> Print for ReasonSentences<'a> {
     }
 }
 
-/// The sentence on the refusal of a file as a field, and then the text behind it.
+/// The sentence on the refusal of a file as a field, and then the text after it.
 #[derive(Clone, Copy)]
 pub struct FileSentenceFields<B>(pub FileFault, pub B);
 
@@ -334,7 +334,7 @@ impl Print for FinalSuperSentenceField {
     }
 }
 
-/// The sentence on the fault of a stack map or of code as a field, where a reason has one, and then the text behind it.
+/// The sentence on the fault of a stack map or of code as a field, where a reason has one, and then the text after it.
 #[derive(Clone, Copy)]
 struct FaultSentenceFields<'a, B>(Reason<'a>, B);
 
@@ -354,7 +354,7 @@ impl<'a, B: Print + Copy> Print for FaultSentenceFields<'a, B> {
     }
 }
 
-/// The sentences that say why a method is refused, as fields, and then the text behind them.
+/// The sentences that say why a method is refused, as fields, and then the text after them.
 #[derive(Clone, Copy)]
 pub struct ReasonSentenceFields<'a, B>(pub Reason<'a>, pub B);
 

@@ -170,7 +170,7 @@ impl<'a> Print for UnmetLine<'a> {
     }
 }
 
-/// The field of the type that is found, if there is one, and then what stands behind it.
+/// The field of the type that is found, if there is one, and then what stands after it.
 #[derive(Clone, Copy)]
 struct FoundFields<'a, B>(Option<VType<'a>>, B);
 
@@ -188,7 +188,7 @@ impl<'a, B: Print + Copy> Print for FoundFields<'a, B> {
     }
 }
 
-/// The fields of an operand, and then what stands behind them.
+/// The fields of an operand, and then what stands after them.
 #[derive(Clone, Copy)]
 struct OperandFields<'a, E, B> {
     place: usize,
@@ -211,7 +211,7 @@ impl<'a, E: Print + Copy, B: Print + Copy> Print for OperandFields<'a, E, B> {
     }
 }
 
-/// The fields of an expected type that is not met, and then what stands behind them.
+/// The fields of an expected type that is not met, and then what stands after them.
 #[derive(Clone, Copy)]
 pub struct UnmetFields<'a, B>(pub Unmet<'a>, pub B);
 

@@ -16,7 +16,7 @@ use rules::Reason;
 use std::io::Write;
 use verify::{FileFault, MethodVerdict, Verdict};
 
-/// The refusal of the file that is to be verified, as an object of JSON, and then the text behind its fields.
+/// The refusal of the file that is to be verified, as an object of JSON, and then the text after its fields.
 #[derive(Clone, Copy)]
 struct ClassObject<B>(FileFault, B);
 
@@ -47,7 +47,7 @@ impl Print for ClassRefusal {
     }
 }
 
-/// The refusal of the known class of this number, as an object of JSON, and then the text behind its fields.
+/// The refusal of the known class of this number, as an object of JSON, and then the text after its fields.
 #[derive(Clone, Copy)]
 struct KnownObject<B> {
     /// It counts from 1.
@@ -67,7 +67,7 @@ impl<B: Print + Copy> Print for KnownObject<B> {
     }
 }
 
-/// The refusal of a file as an object of JSON, and then the text behind its fields.
+/// The refusal of a file as an object of JSON, and then the text after its fields.
 #[derive(Clone, Copy)]
 pub struct FileObject<B> {
     /// The number of a known class, from 1; none for the file that is to be verified.
@@ -144,7 +144,7 @@ impl<'a> Print for FaultName<'a> {
     }
 }
 
-/// Writes the name of a class as a field, and then the text behind it.
+/// Writes the name of a class as a field, and then the text after it.
 fn put_named<W: Write, B: Print + Copy>(
     out: &mut W,
     name: &[u8],
@@ -156,7 +156,7 @@ fn put_named<W: Write, B: Print + Copy>(
     More("name", QuotedSpelled(name), behind).put(out)
 }
 
-/// The name of the class that has a fault, as a field where the fault has one, and then the text behind it.
+/// The name of the class that has a fault, as a field where the fault has one, and then the text after it.
 #[derive(Clone, Copy)]
 struct NameFields<'a, B>(HierarchyFault<'a>, B);
 
@@ -177,7 +177,7 @@ impl<'a, B: Print + Copy> Print for NameFields<'a, B> {
     }
 }
 
-/// The refusal of classes that are no hierarchy, as an object of JSON, and then the text behind its fields.
+/// The refusal of classes that are no hierarchy, as an object of JSON, and then the text after its fields.
 #[derive(Clone, Copy)]
 pub struct HierarchyObject<'a, B>(pub HierarchyFault<'a>, pub B);
 
@@ -251,7 +251,7 @@ impl<'a> Print for ReasonEnding<'a> {
     }
 }
 
-/// The end of a refusal, as a field where it has one, and then the text behind it.
+/// The end of a refusal, as a field where it has one, and then the text after it.
 #[derive(Clone, Copy)]
 struct ReasonFields<'a, B>(Reason<'a>, B);
 
@@ -269,7 +269,7 @@ impl<'a, B: Print + Copy> Print for ReasonFields<'a, B> {
     }
 }
 
-/// The verdict on a method, behind its name.
+/// The verdict on a method, after its name.
 #[derive(Clone, Copy)]
 struct VerdictText<'a>(Verdict<'a>);
 
@@ -293,7 +293,7 @@ impl<'a> Print for VerdictText<'a> {
     }
 }
 
-/// The verdict on a method, as fields behind its name, and then the text behind them.
+/// The verdict on a method, as fields after its name, and then the text after them.
 #[derive(Clone, Copy)]
 struct VerdictFields<'a, B>(Verdict<'a>, B);
 
@@ -313,7 +313,7 @@ impl<'a, B: Print + Copy> Print for VerdictFields<'a, B> {
     }
 }
 
-/// The object of JSON about a method and the verdict on it, and then the text behind its fields.
+/// The object of JSON about a method and the verdict on it, and then the text after its fields.
 #[derive(Clone, Copy)]
 pub struct VerdictObject<'a, B> {
     pub method: MethodVerdict<'a>,

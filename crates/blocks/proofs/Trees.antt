@@ -1,4 +1,4 @@
--- Nodes put behind others, and places below a node that change: what each node holds afterwards.
+-- Nodes put after others, and places below a node that change: what each node holds afterwards.
 use Rattle.std.proofs.Common.{◌≡◌, ◌≢◌, ◌∙◌, ℕ, zero, suc, ◌+◌, ◌-◌, ◌%◌, ◌<◌, ◌≤◌, ◌⊎◌, inl, inr, List, [], ◌∷◌, length, get_or, set, Some, None, refl, sym, ap, arith, length-append, length-set, get_or-set_other, get_or-set_same, subst}
 use Rattle.std.proofs.lemmas.List.{get_or_append_left, get_or_at, get_or_read}
 use Rattle.std.proofs.lemmas.Bool.{cases_eq, cases_lt}
@@ -34,7 +34,7 @@ pub number_first : (ns : List Node) (a b : ℕ) → (node_at ns a).numbers ≡ (
 number_first ns a b same zero slot = ap (λ xs. get_or xs (slot % 16) 0) same
 number_first ns a b same (suc level) slot = ap (λ xs. number_at ns level (get_or xs (place_in slot (suc level)) 0) slot) same
 
--- ---- a copy behind the others
+-- ---- a copy after the others
 
 module _ (ns ms : List Node) (id copy : ℕ) (is : IsCopy ns ms id copy) where
   pub copied_length : length ms ≡ length ns + 1

@@ -214,7 +214,7 @@ impl Arena {
     pub fn first_undecided(&self, row: Row, from: usize) -> Option<usize>
         requires { row < length self.now.declared }
         ensures first { IsFirstUndecided self.now row from result }
-        // a slot has one behind it that is counted too
+        // a slot has one after it that is counted too
         ensures few { length self.now.running < 2 ^ 16 }
     {
         let wanted = root_of(&self.declared, row);

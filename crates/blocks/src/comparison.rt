@@ -5,7 +5,7 @@ ghost use Rattle.blocks.specs.private.Trees.{IsForest, IsSettledUpTo, IsFirstUnd
 use crate::block::{first_lane, first_unequal_lane, place_in};
 use crate::node::Node;
 
-/// The slot behind the node of a level in which a slot stands.
+/// The slot after the node of a level in which a slot stands.
 fn end_of(slot: usize, level: u32) -> usize
     requires level { level < 4 }
     requires slot { slot < 2 ^ 32 }

@@ -1,4 +1,4 @@
--- The part of a file that is read: the class that it begins with, and the byte behind it.
+-- The part of a file that is read: the class that it begins with, and the byte after it.
 use Rattle.std.specs.Prelude.{◌≡◌, ◌++◌, List, ℕ, take}
 use Rattle.classfile.specs.Outline.{IsOutline}
 

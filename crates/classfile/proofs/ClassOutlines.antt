@@ -88,7 +88,7 @@ covers_table f g h =
     covers_then (number 2) (number 2) (λ n. times n f) (λ n. repeated n g) Same Any (covers_itself (number 2))
     (λ v w same. subst (λ (n : ℕ). Covers (times v f) (repeated n g) Any) same (covers_times f g h v))
 
--- ---- what nothing stands behind
+-- ---- what nothing stands after
 
 record Ends {V : Type 0} (f : Format V) : Type 0 where
   none : (given : List ℕ) (v : V) → Spells f given v → given ≡ []

@@ -26,7 +26,7 @@ one_answer r x y h k = same_good x y (sym h ∙ k)
 
 -- ---- a search beside the reading of the same bytes
 
--- It ends in a part of this kind where what is read reaches the place, and goes on behind what was read.
+-- It ends in a part of this kind where what is read reaches the place, and goes on after what was read.
 abbrev Follows : {V : Type 0} → (FilePart → Type 0) → ℕ → Search V → Result (V × Place) ReadFault → Type 0
 Follows Kind at (Ok x) r = (r ≡ Ok x) × (x.1.at ≤ at)
 Follows Kind at (Err found) r = IsReached at r × ((part : FilePart) × (found ≡ Some part) × Kind part)
@@ -124,7 +124,7 @@ module _ (at : ℕ) where
     abbrev Finds : Search (Unit {0}) → Type 0 → Type 0
     Finds s P = ((part : FilePart) → s ≡ Err (Some part) → LiesIn part.place bytes at) × (P → (part : FilePart) × (s ≡ Err (Some part)))
 
-    -- behind what is in no part
+    -- after what is in no part
     finds_gap : {V : Type 0} (f : Format V) (here : Place) (after : V → Place → Search (Unit {0})) (P : Type 0)
         → ((x : V × Place) → reads f here.at here.rest ≡ Ok x → x.1.at ≤ at → Finds (after x.0 x.1) P)
         → (P → (x : V × Place) × (reads f here.at here.rest ≡ Ok x) × (x.1.at ≤ at))
@@ -162,7 +162,7 @@ module _ (at : ℕ) where
             let further = forward (next x.0) x.1 y read in
             (x, is_ok, omega (arith, further, le))
 
-    -- what is read behind the front
+    -- what is read after the front
     read_behind : {V W : Type 0} (front : Format V) (next : V → Format W) (x : V × Place) → reads front 0 bytes ≡ Ok x
         → reads (andthen front next) 0 bytes ≡ reads (next x.0) x.1.at x.1.rest
     read_behind front next x is = reads_andthen front next 0 bytes ∙ ap (λ r. behind_it r next) is
@@ -171,7 +171,7 @@ module _ (at : ℕ) where
         → Before (andthen front next) → (y : W × Place) × (reads (next x.0) x.1.at x.1.rest ≡ Ok y) × (y.1.at ≤ at)
     before_behind front next x is (y, read, le) = (y, sym (read_behind front next x is) ∙ read, le)
 
-    -- ---- in a table, or behind it
+    -- ---- in a table, or after it
 
     -- a part of a kind that stands in this table
     abbrev Stands : (FilePart → Type 0) → Format ℕ → (ℕ → Format (Unit {0})) → Type 0
@@ -317,7 +317,7 @@ module _ (at : ℕ) where
         (λ l. before_behind head (λ skipped. number 2) x is (before_constants l)))
         (λ l. before_first head (λ skipped. number 2) (before_constants l))
 
-    -- the searches are one behind the other
+    -- the searches are one after the other
     after_both : {V W X : Type 0} (s : Search V) (f : V → Place → Search W) (g : W → Place → Search X)
         → then_search (then_search s f) g ≡ then_search s (λ v p. then_search (f v p) g)
     after_both (Ok x) f g = refl

@@ -46,7 +46,7 @@ or_right : (a b : Bool) → b ≡ true → (a || b) ≡ true
 or_right true b h = refl
 or_right false b h = h
 
--- ---- parts one behind the other
+-- ---- parts one after the other
 
 pub measured_append : {p q : List Piece} {f g : Bool} {m n : ℕ} → Measured p f m → Measured q g n → Measured (p ++ q) (f && g) (m + n)
 measured_append {p = p} {q = q} {f = f} {g = g} {m = m} {n = n} a b = record {

@@ -20,7 +20,7 @@ short_row test (c ∷ cs) [] some few = (refl, refl)
 short_row test (c ∷ cs) (b ∷ []) some few = (refl, refl)
 short_row test (c ∷ cs) (b ∷ d ∷ bytes) some few = absurd (omega (arith, few))
 
--- a row that is sound, and the others behind it
+-- a row that is sound, and the others after it
 pub one_row : (test : Column → ℕ → Bool) (cs : List Column) (n : ℕ) (bytes behind : List ℕ)
     → Some behind ≡ cond (row_breaks test cs (row_in cs bytes)) None (Some (behind_row cs bytes))
     → list_any (row_breaks test cs) (rows_in cs (suc n) bytes) ≡ list_any (row_breaks test cs) (rows_in cs n behind)

@@ -39,7 +39,7 @@ place_of pool s index text numbers found =
       known = omega (arith, stands.counted, within, numbers.sized);
     }
 
--- behind it is the index again
+-- after it is the index again
 behind : (pool : List Entry) (index : ℕ) (text : List ℕ) → 1 ≤ index → text_at pool index ≡ Ok text → text_at pool ((index - 1) + 1) ≡ Ok text
 behind pool index text some found = let e : (index - 1) + 1 ≡ index = omega (arith, some) in ap (text_at pool) e ∙ found
 

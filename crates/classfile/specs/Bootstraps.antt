@@ -36,7 +36,7 @@ bootstrap_methods = table bootstrap_method
 abbrev pub bootstrap_pieces : BootstrapMethod → List Piece
 bootstrap_pieces b = field 2 b.handle ++ counted (field 2) b.arguments
 
--- what was read, where no bytes stand behind it
+-- what was read, where no bytes stand after it
 abbrev pub all_read : Result (List BootstrapMethod × Place) ReadFault → List BootstrapMethod
 all_read (Ok x) = if nat_eq (length x.1.rest) 0 then x.0 else []
 all_read (Err e) = []

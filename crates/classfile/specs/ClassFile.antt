@@ -1,5 +1,5 @@
 -- The layout of class files (JVMS 4.1, 4.5 to 4.7): which bytes spell which class, and which fault comes first.
--- Each layout is the parts that stand one behind the other, in the order of the file.
+-- Each layout is the parts that stand one after the other, in the order of the file.
 use Rattle.std.specs.Prelude.{◌≡◌, ℕ, ◌-◌, ◌≤◌, ◌<◌, Bool, List, Option, Some, None, length, nat_le, nat_eq, ◌&&◌, ◌||◌, if◌then◌else◌, ◌⊎◌}
 use Rattle.layout.specs.Format.{Format, Spells, done, part, refuse, andthen, number, times, inside}
 use Rattle.layout.specs.Whole.{WholeFault}
@@ -154,7 +154,7 @@ pub record IsClass (bytes : List ℕ) (c : Class) : Type 0 where
   pub spelled : Spells class bytes c
 
 -- The first fault in the order of the file: more bytes than a class file may have goes before all others;
--- then the first part that is not whole or breaks its rule; then bytes behind a class.
+-- then the first part that is not whole or breaks its rule; then bytes after a class.
 abbrev pub ClassFault : List ℕ → ReadFault → Type 0
 ClassFault bytes e =
     ((MAX_CLASS_BYTES < length bytes) × (e ≡ TooLong 0))

@@ -27,7 +27,7 @@ attribute_of holder n = record { place = holder; tag = None; attribute = Some n 
 
 -- ---- the search for a place
 
--- The place lies behind what was read so far, which is this, up to here; or it lies in this part, or in none.
+-- The place lies after what was read so far, which is this, up to here; or it lies in this part, or in none.
 abbrev pub Search : Type 0 → Type 0
 Search V = Result (V × Place) (Option FilePart)
 
@@ -35,7 +35,7 @@ abbrev pub then_search : {V W : Type 0} → Search V → (V → Place → Search
 then_search (Ok x) next = next x.0 x.1
 then_search (Err part) next = Err part
 
--- Bytes were read of a part, or of none: the place lies in it if it is not whole, or ends behind the place.
+-- Bytes were read of a part, or of none: the place lies in it if it is not whole, or ends after the place.
 abbrev pub passing : {V : Type 0} → ℕ → Option FilePart → Result (V × Place) ReadFault → Search V
 passing at part (Err e) = Err part
 passing at part (Ok x) = if nat_lt at x.1.at then Err part else Ok x
@@ -103,7 +103,7 @@ part_of (Err part) = part
 
 -- The part in which a place of these bytes lies; it need not be whole. None where the place lies in the magic number,
 -- the version, the flags, the indices of the class, its superclass and its interfaces, or in a count of a table of the
--- class; and none behind the last part.
+-- class; and none after the last part.
 abbrev pub file_part : List ℕ → ℕ → Option FilePart
 file_part bytes at = part_of (search_file at (record { at = 0; rest = bytes }))
 
@@ -126,13 +126,13 @@ fault_part bytes e = option_and_then (file_part bytes) (place_in e)
 
 -- ---- where there is a part
 
--- what was read is not whole, or ends behind the place
+-- what was read is not whole, or ends after the place
 abbrev pub IsReached : {V : Type 0} → ℕ → Result (V × Place) ReadFault → Type 0
 IsReached at (Err e) = Unit {0}
 IsReached at (Ok x) = at < x.1.at
 
--- Behind what stands in front, from the beginning of the file, stand so many items, and the place lies in them: not in
--- front of them, and they are not whole or end behind it.
+-- After what stands in front, from the beginning of the file, stand so many items, and the place lies in them: not in
+-- front of them, and they are not whole or end after it.
 abbrev pub LiesBehind : Format ℕ → (ℕ → Format (Unit {0})) → List ℕ → ℕ → Type 0
 LiesBehind front items bytes at = (n : ℕ) × (here : Place) × (reads front 0 bytes ≡ Ok (n, here)) × (here.at ≤ at)
     × IsReached at (reads (items n) here.at here.rest)

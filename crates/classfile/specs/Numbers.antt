@@ -20,7 +20,7 @@ abbrev pub row_in : List Column → List ℕ → List ℕ
 row_in (c ∷ cs) (high ∷ low ∷ bytes) = (high * 256 + low) ∷ row_in cs bytes
 row_in cs bytes = []
 
--- the bytes behind a row
+-- the bytes after a row
 abbrev pub behind_row : List Column → List ℕ → List ℕ
 behind_row [] bytes = bytes
 behind_row (c ∷ cs) (high ∷ low ∷ bytes) = behind_row cs bytes

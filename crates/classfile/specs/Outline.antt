@@ -15,7 +15,7 @@ end = done tt
 abbrev pub bytes : ℕ → Format (Unit {0})
 bytes n = andthen (part n done) (λ skipped. end)
 
--- so many of the same, one behind the other
+-- so many of the same, one after the other
 unfoldable pub repeated : {V : Type 0} → ℕ → Format V → Format (Unit {0})
 repeated zero f = end
 repeated (suc n) f = andthen f (λ skipped. repeated n f)
@@ -38,7 +38,7 @@ both m n = andthen (part m done) (λ skipped. bytes n)
 unfoldable pub wide : Bool → ℕ → Format (Unit {0})
 wide last tag = if last then refuse (λ at. BadTag (at - 1) tag) else both 4 4
 
--- what stands behind a tag (4.4); `last` says that no second index is left
+-- what stands after a tag (4.4); `last` says that no second index is left
 unfoldable pub constant : Bool → ℕ → Format (Unit {0})
 constant last tag =
     if nat_eq tag 1 then text
@@ -62,7 +62,7 @@ constant last tag =
 abbrev pub is_wide : ℕ → Bool
 is_wide tag = nat_eq tag 5 || nat_eq tag 6
 
--- a tag and what stands behind it; told is whether it takes a second index
+-- a tag and what stands after it; told is whether it takes a second index
 unfoldable pub tagged : Bool → Format Bool
 tagged last = andthen (number 1) (λ tag. andthen (constant last tag) (λ skipped. done (is_wide tag)))
 
@@ -130,7 +130,7 @@ OutlineFault stream e = StreamHas outline stream e
 abbrev pub IsUndecided : List ℕ → Type 0
 IsUndecided given = (at : ℕ) × Leads outline 0 given (partial at)
 
--- Why a stream was given up behind these bytes. Memory ran out or the reader failed while nothing was decided; or the
+-- Why a stream was given up after these bytes. Memory ran out or the reader failed while nothing was decided; or the
 -- reader ended within a part; or these bytes have a fault, and no fewer of them have it.
 abbrev pub GivesUp : List ℕ → Option (List ℕ) → ReadFault → Type 0
 GivesUp given after OutOfMemory = IsUndecided given
@@ -138,7 +138,7 @@ GivesUp given after (ReadFailed at) = (at ≡ length given) × IsUndecided given
 GivesUp given after (EndsEarly at) = Leads outline 0 given (partial at) × IsAtEnd after
 GivesUp given after e = Leads outline 0 given (refused e)
 
--- These bytes were taken from the reader, and behind them it was given up.
+-- These bytes were taken from the reader, and after them it was given up.
 pub record Stopped (before after : Option (List ℕ)) (given : List ℕ) (why : ReadFault) : Type 0 where
   pub consumed : Consumes before after given
   pub gives_up : GivesUp given after why

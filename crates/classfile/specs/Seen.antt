@@ -31,7 +31,7 @@ pub record AreSeen (pool : List Entry) (members : List Member) (s : MemberKeys) 
   pub pairs : All (AreBothNumbers pool s.numbers) s.seen.keys
   pub exactly : (x : Named) → has_seen pool s x ≡ is_among pool members x
 
--- a member was met, behind these ones
+-- a member was met, after these ones
 pub record MeetsMember (pool : List Entry) (old new : MemberKeys) (m : Member) (repeated : Bool) : Type 0 where
   pub repeats : (earlier : List Member) → AreSeen pool earlier old → repeated ≡ is_repeated pool earlier m
   pub seen : (earlier : List Member) → AreSeen pool earlier old → AreSeen pool (earlier ++ m ∷ []) new

@@ -1,4 +1,4 @@
-//! A class file, its version and what stands behind its pool (JVMS 4.1).
+//! A class file, its version and what stands after its pool (JVMS 4.1).
 ghost use Rattle.std.specs.Prelude.{◌≡◌, map};
 ghost use Rattle.layout.specs.Faults.{GoesOn};
 ghost use Rattle.layout.specs.Pieces.{Goes, field, marked};

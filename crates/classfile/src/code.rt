@@ -18,7 +18,7 @@ use std::alloc::Global;
 pub struct ExceptionHandler {
     /// The start_pc item: the first byte of code that is covered.
     pub start_pc: u16,
-    /// The end_pc item: the first byte of code behind those that are covered.
+    /// The end_pc item: the first byte of code after those that are covered.
     pub end_pc: u16,
     /// The handler_pc item: the first byte of the handler.
     pub handler_pc: u16,

@@ -20,7 +20,7 @@ use std::alloc::Global;
 ///
 /// Otherwise the first fault in the order of the file, each with its place in bytes: 2 where a part passes the
 /// end, 3 for a bad text, 7 for a tag or a method handle's kind, 10 for the magic number, 11 for the version,
-/// 12 for an attribute that is read by field and does not use exactly its length, 13 for bytes behind the class,
+/// 12 for an attribute that is read by field and does not use exactly its length, 13 for bytes after the class,
 /// 14 at 0 for more than 16,777,216 bytes, before anything is read, and 16 for a pool without a count;
 /// or 1 where memory runs out.
 pub fn decode(alloc: Global, bytes: &[u8]) -> Result<ClassFile<'_>, ReadFault>

@@ -60,7 +60,7 @@ impl<'a> DuplicateFinder<'a> {
     }
 }
 
-/// The byte at a place of a text, or 0 behind its end.
+/// The byte at a place of a text, or 0 after its end.
 fn byte_at(bytes: &[u8], place: usize) -> usize
     ensures { result ≡ byte_at bytes.now place }
 {

@@ -205,7 +205,7 @@ fn in_between(cursor: &mut Cursor<'_>, at: usize) -> Result<u16, Option<FilePart
     Ok(count)
 }
 
-/// Searches the place behind the pool.
+/// Searches the place after the pool.
 #[tactic(auto, unfolding(crate::specs::FileParts::search_tables))]
 fn tables(cursor: &mut Cursor<'_>, at: usize) -> Result<(), Option<FilePart>>
     ensures { Searches (search_tables at cursor.old) cursor.new result }
@@ -258,10 +258,10 @@ fn place_in(fault: ReadFault) -> Option<usize>
 }
 
 /// The part of a class file in which a fault lies that [`decode`](crate::decode) or [`read_class`](crate::read_class)
-/// tells of its bytes: the first that ends behind the place of the fault, or is not whole.
+/// tells of its bytes: the first that ends after the place of the fault, or is not whole.
 ///
 /// Nothing for a fault without a place, and for one in the magic number, the version, the flags, the indices of the
-/// class, its superclass and its interfaces, a count of a table of the class, or behind all parts. Tags, lengths and
+/// class, its superclass and its interfaces, a count of a table of the class, or after all parts. Tags, lengths and
 /// counts alone are looked at. Time grows with the bytes up to the fault, and no memory is taken.
 pub fn fault_part(bytes: &[u8], fault: ReadFault) -> Option<FilePart>
     ensures { result ≡ fault_part bytes.now fault }

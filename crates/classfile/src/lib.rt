@@ -9,7 +9,7 @@
 //!
 //! | File | What it holds |
 //! |---|---|
-//! | `class_file` | [`ClassFile`], its version and what stands behind its pool |
+//! | `class_file` | [`ClassFile`], its version and what stands after its pool |
 //! | `member` | [`Member`], a field or a method |
 //! | `attribute` | [`Attribute`] of a field, a method or a component of a record |
 //! | `attribute_info` | the name and the body of an attribute, whatever it is |

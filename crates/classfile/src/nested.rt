@@ -22,7 +22,7 @@ pub enum NestedAttribute<'a> {
     Raw { name: u16, body: &'a [u8] },
 }
 
-/// A name index and a body behind its length. Where the body may not be written so, no bytes spell the value.
+/// A name index and a body after its length. Where the body may not be written so, no bytes spell the value.
 pub fn put_kept(out: &mut Output, name: u16, fine: bool, body: &[u8]) -> Result<(), WriteFault>
     ensures { Goes (field 2 name ++ lengthened (marked fine (plain body.now ∷ []))) out.old out.new result }
 {

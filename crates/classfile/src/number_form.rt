@@ -79,7 +79,7 @@ fn breaks(pool: &Pool<'_>, rule: IndexRule, column: Column, number: u16) -> bool
     }
 }
 
-/// The bytes behind a row of numbers, if none of them breaks the rule.
+/// The bytes after a row of numbers, if none of them breaks the rule.
 fn sound_row<'b>(
     pool: &Pool<'_>,
     rule: IndexRule,
@@ -185,7 +185,7 @@ fn variable() -> &'static [Column]
     &VARIABLE
 }
 
-/// The bytes behind a local variable, if neither its name nor its descriptor breaks one of the two rules. Of all rows
+/// The bytes after a local variable, if neither its name nor its descriptor breaks one of the two rules. Of all rows
 /// these are the most, so their other numbers are not looked at one by one.
 fn sound_variable<'b>(pool: &Pool<'_>, bytes: &'b [u8]) -> Option<&'b [u8]>
     requires { 10 ≤ length bytes.now }

@@ -37,7 +37,7 @@ fn first_number(bytes: &[u8]) -> Option<u16>
     }
 }
 
-/// The bytes behind so many of this width, or none.
+/// The bytes after so many of this width, or none.
 fn behind(bytes: &[u8], count: usize, width: usize) -> &[u8]
     ensures { result.now ≡ drop (count * width) bytes.entry.now }
 {

@@ -54,7 +54,7 @@ fn bad_tag(reading: &Reading, tag: u8) -> StreamFault
     }
 }
 
-/// The body of a Long or Double, whose tag was just read: the last index has none behind it (JVMS 4.4.5).
+/// The body of a Long or Double, whose tag was just read: the last index has none after it (JVMS 4.4.5).
 #[tactic(auto, using(crate::proofs::Outlines::steps), unfolding(crate::specs::Outline::wide))]
 fn wide<R: Read>(
     reading: &mut Reading,
@@ -284,7 +284,7 @@ fn interfaces<R: Read>(reading: &mut Reading, reader: &mut R) -> Result<(), Stre
     numbers(reading, reader, count)
 }
 
-/// Reads the part behind the constant pool.
+/// Reads the part after the constant pool.
 #[tactic(auto, using(crate::proofs::Outlines::steps), unfolding(crate::specs::Outline::behind_pool))]
 fn behind_pool<R: Read>(reading: &mut Reading, reader: &mut R) -> Result<(), StreamFault>
     ensures { Streams behind_pool (λ x. x) reading.old.bytes reading.new.bytes (R.remaining reader.old)

@@ -34,7 +34,7 @@ fn both(cursor: &mut Cursor<'_>, first: usize, second: usize) -> Result<(), Read
     bytes(cursor, second)
 }
 
-/// The body of a Long or Double, whose tag was just read: the last index has none behind it (JVMS 4.4.5).
+/// The body of a Long or Double, whose tag was just read: the last index has none after it (JVMS 4.4.5).
 #[tactic(auto, using(crate::proofs::Steps::steps), unfolding(crate::specs::Outline::wide))]
 fn wide(cursor: &mut Cursor<'_>, at: usize, last: bool, tag: u8) -> Result<(), ReadFault>
     requires { at ≡ cursor.old.at - 1 }

@@ -64,7 +64,7 @@ class_files = record (new_rule (codes "CLASS")) {
 abbrev pub play : Shape
 play = (with_rule (with_rule (new_app (codes "play")) class_files) dynamic).top
 
--- any number of files of other classes that they may refer to, behind `--known`
+-- any number of files of other classes that they may refer to, after `--known`
 abbrev pub known_option : Rule
 known_option = record (new_rule (codes "KNOWN")) {
   long = Some (codes "known");
@@ -87,7 +87,7 @@ program = record (new_app (codes "classck")) {
 abbrev pub line_of_file : App
 line_of_file = with_subcommand (with_subcommand program check) show
 
--- the commands of a class and known ones behind them
+-- the commands of a class and known ones after them
 abbrev pub line_with_known : App
 line_with_known = with_subcommand (with_subcommand line_of_file verify) explain
 
@@ -102,7 +102,7 @@ line = with_subcommand line_with_play verify_each
 abbrev pub words_for : Text → List Row → List Text
 words_for name rows = unwrap_or (all_of name rows) []
 
--- the files that the words behind a command name
+-- the files that the words after a command name
 abbrev pub files_in : Command → List Row → List Text
 files_in (Check form) rows = words_for (codes "FILE") rows
 files_in Show rows = words_for (codes "FILE") rows
@@ -122,7 +122,7 @@ form_in rows = if is_true (words_for (codes "json") rows) then Json else Plain
 abbrev pub profile_in : List Row → Profile
 profile_in rows = if is_true (words_for (codes "dynamic") rows) then Dynamic else Default
 
--- the command of a name, with the form, the profile and the classes that the words behind it ask for; `clap` takes no
+-- the command of a name, with the form, the profile and the classes that the words after it ask for; `clap` takes no
 -- other name than theirs
 abbrev pub command_named : Text → List Row → Command
 command_named name rows =

@@ -1,4 +1,4 @@
--- The bytes that a writer holds behind a call whose only refusal is 19.
+-- The bytes that a writer holds after a call whose only refusal is 19.
 use Rattle.std.specs.Prelude.{◌≡◌, ℕ, List, Option, Result, Ok, Err}
 use Rattle.std.specs.Io.KnownBytes.{Appends}
 use Rattle.printing.specs.Writing.{AppendsFront}

@@ -245,7 +245,7 @@ fn play<'a>(alloc: Global) -> Result<Parser<'a>, AllocError>
     )
 }
 
-/// Any number of files of classes, behind `--known`.
+/// Any number of files of classes, after `--known`.
 fn known_option<'a>(alloc: Global) -> Arg<'a>
     ensures rule { rule_of result ≡ known_option }
     ensures local { result.global ≡ false }
@@ -259,7 +259,7 @@ fn known_option<'a>(alloc: Global) -> Arg<'a>
         )
 }
 
-/// A command that takes the files of classes and, behind `--known`, those of others.
+/// A command that takes the files of classes and, after `--known`, those of others.
 fn classes_and_known<'a>(alloc: Global) -> Result<Parser<'a>, AllocError>
     ensures app { IfOk result (λ c. app_of c
         ≡ with_rule (with_rule (new_app (codes "verify-each")) class_files) known_option) }
@@ -385,7 +385,7 @@ fn is_set(found: &ArgMatches<'_>, name: &str) -> bool
     }
 }
 
-/// The form that the words behind a command ask for.
+/// The form that the words after a command ask for.
 fn form(found: &ArgMatches<'_>) -> Form
     ensures { result ≡ form_in (rows_of (found_of found.now)) }
 {
@@ -396,7 +396,7 @@ fn form(found: &ArgMatches<'_>) -> Form
     }
 }
 
-/// The profile that the words behind a command name.
+/// The profile that the words after a command name.
 fn profile(found: &ArgMatches<'_>) -> Profile
     ensures { result ≡ profile_in (rows_of (found_of found.now)) }
 {
@@ -417,7 +417,7 @@ fn count_words(found: &ArgMatches<'_>, name: &str) -> usize
     }
 }
 
-/// The command of this name, with the form, the profile and the classes that the words behind it ask for.
+/// The command of this name, with the form, the profile and the classes that the words after it ask for.
 fn command_named(name: &str, found: &ArgMatches<'_>) -> Command
     ensures { result ≡ command_named name.now (rows_of (found_of found.now)) }
 {

@@ -32,7 +32,7 @@ fn object_type<'a>(wanted: RunType<'a>, types: &[RunType<'a>], chance: &mut Chan
     }
 }
 
-/// A value for a parameter of a type: a number of its kind, null, or an object behind those that are there.
+/// A value for a parameter of a type: a number of its kind, null, or an object after those that are there.
 fn argument<'a>(
     t: FieldType<'a>,
     types: &[RunType<'a>],

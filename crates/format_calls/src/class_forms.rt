@@ -67,7 +67,7 @@ fn is_told_twice(fault: FormFault) -> bool {
     fault.number() == 25 && matches!(fault.place(), Some(Place::Method(2)))
 }
 
-/// Where memory runs out the check returns 1, and otherwise that a method stands twice, behind one of another name.
+/// Where memory runs out the check returns 1, and otherwise that a method stands twice, after one of another name.
 fn is_twice_or_memory(alloc: Global) -> bool {
     let Some(mut class) = with_a_native(alloc) else {
         return true;

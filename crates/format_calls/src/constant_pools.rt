@@ -53,7 +53,7 @@ fn both_ways(rt: HostRuntime) {
     assert!(rt; is_read_and_put_out(rt.alloc()));
 }
 
-/// Why no pool stands behind eight bytes, as in a class file, if none does; and where the cursor then is.
+/// Why no pool stands after eight bytes, as in a class file, if none does; and where the cursor then is.
 fn read_fault(alloc: Global, bytes: &[u8]) -> (Option<ReadFault>, usize) {
     let mut cursor = Cursor::starting(8, bytes);
     let fault = Pool::take(alloc, &mut cursor).err();

@@ -51,7 +51,7 @@ impl<'a> Read for Pieces<'a> {
     }
 }
 
-/// The bytes, cut behind the first `n`: then the reader fails, or ends.
+/// The bytes, cut after the first `n`: then the reader fails, or ends.
 fn cut(bytes: &[u8], n: usize, fails: bool, piece: usize) -> Pieces<'_>
     requires { n ≤ length bytes.now }
 {
@@ -64,14 +64,14 @@ fn cut(bytes: &[u8], n: usize, fails: bool, piece: usize) -> Pieces<'_>
     }
 }
 
-/// The answer on K, cut behind the first `n` bytes.
+/// The answer on K, cut after the first `n` bytes.
 fn of_cut(alloc: Global, n: usize, fails: bool, piece: usize) -> Result<Vec<u8>, CutShort>
     requires { n ≤ 97 }
 {
     read_class(alloc, &mut cut(&K, n, fails, piece))
 }
 
-/// The place of the number or part that is not whole where K is cut behind its first `n` bytes.
+/// The place of the number or part that is not whole where K is cut after its first `n` bytes.
 fn place_of(n: usize) -> usize {
     let mut place = if n < 95 { 0 } else { 95 };
     for start in STARTS {
@@ -82,7 +82,7 @@ fn place_of(n: usize) -> usize {
     place
 }
 
-/// That a class was cut short behind these bytes, for this reason.
+/// That a class was cut short after these bytes, for this reason.
 fn is_cut_at(answer: &Result<Vec<u8>, CutShort>, bytes: &[u8], why: ReadFault) -> bool {
     matches!(answer, Err(cut) if cut.bytes.as_slice() == bytes && cut.why == why)
 }
@@ -135,7 +135,7 @@ fn memory_for_a_class(rt: HostRuntime) {
     assert!(rt; leaves_three(rt.alloc(), 7, true));
 }
 
-/// Whether K with one byte changed is cut short behind so many bytes, for this reason.
+/// Whether K with one byte changed is cut short after so many bytes, for this reason.
 fn is_changed(alloc: Global, place: usize, byte: u8, taken: usize, why: ReadFault) -> bool
     requires place { place < 97 }
     requires taken { taken ≤ 97 }

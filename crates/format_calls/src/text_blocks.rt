@@ -80,7 +80,7 @@ fn longer_at_each_place(rt: HostRuntime) {
     }
 }
 
-/// Behind a longer unit at the front a wrong part is found as well.
+/// After a longer unit at the front a wrong part is found as well.
 #[test]
 fn wrong_behind_a_longer_unit(rt: HostRuntime) {
     for length in LENGTHS {

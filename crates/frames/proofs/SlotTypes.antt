@@ -1,4 +1,4 @@
--- Types by their slots: a type is got back from tag, dimensions and the two bytes behind them.
+-- Types by their slots: a type is got back from tag, dimensions and the two bytes after them.
 use Rattle.std.proofs.Common.{◌≡◌, ◌≢◌, ◌∙◌, ℕ, zero, suc, ◌+◌, ◌*◌, ◌-◌, ◌<◌, ◌≤◌, Bool, true, false, cond, ◌&&◌, nat_lt, nat_eq, List, Option, Some, None, slice_get, [], refl, sym, ap, subst, arith}
 use Rattle.std.specs.Prelude.{if◌then◌else◌}
 use Rattle.std.specs.Option.{option_map_or}

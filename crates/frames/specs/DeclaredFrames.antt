@@ -55,7 +55,7 @@ delta_of (same_extended delta) = delta
 delta_of (append delta locals) = delta
 delta_of (full delta locals stack) = delta
 
--- behind an entry at an offset, or as the first one
+-- after an entry at an offset, or as the first one
 abbrev pub offset_of : Option ℕ → MapEntry → ℕ
 offset_of None e = delta_of e
 offset_of (Some before) e = before + delta_of e + 1

@@ -32,7 +32,7 @@ pub record IsMark (m : StartKind) (what : Option Act) : Type 0 where
   pub new : is_new_mark m ≡ is_new what
   pub index : index_of_mark m ≡ new_index what
 
--- behind the last mark no instruction begins
+-- after the last mark no instruction begins
 abbrev pub AreMarks : List StartKind → List (ℕ × Act) → Type 0
 AreMarks marks code = (at : ℕ) → IsMark (get_or marks at Inside) (at_offset code at)
 

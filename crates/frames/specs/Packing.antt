@@ -1,4 +1,4 @@
--- Types as slots, numbers of four bytes: a tag, and behind it what tells types of one tag apart. The tags are those of
+-- Types as slots, numbers of four bytes: a tag, and after it what tells types of one tag apart. The tags are those of
 -- stack maps (JVMS 4.7.4), and 9 for arrays of primitive types.
 use Rattle.std.specs.Prelude.{◌≡◌, ◌≢◌, ℕ, ◌+◌, ◌*◌, ◌&&◌, nat_lt, if◌then◌else◌, List, ◌++◌, map, reverse, Option, Some, None}
 use Rattle.names.specs.declared.base.Primitive.{Primitive}

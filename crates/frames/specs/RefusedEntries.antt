@@ -51,12 +51,12 @@ abbrev pub faulty_from : ℕ → ℕ → Place → Option ℕ
 faulty_from zero place here = None
 faulty_from (suc n) place here = faulty_before (reads map_entry here.at here.rest) place (faulty_from n (suc place))
 
--- behind the number of the entries
+-- after the number of the entries
 abbrev pub faulty_behind : Result (ℕ × Place) ReadFault → Option ℕ
 faulty_behind (Err e) = None
 faulty_behind (Ok x) = faulty_from x.0 0 x.1
 
--- none where the fault of a body is in the number of the entries, or behind them
+-- none where the fault of a body is in the number of the entries, or after them
 abbrev pub faulty_entry : List ℕ → Option ℕ
 faulty_entry body = faulty_behind (reads (number 2) 0 body)
 

@@ -24,7 +24,7 @@ pub data MapEntry : Type 0 where
   append : (delta : ℕ) (locals : List TypeInfo) → MapEntry
   full : (delta : ℕ) (locals stack : List TypeInfo) → MapEntry
 
--- what stands behind a tag
+-- what stands after a tag
 abbrev pub type_behind : ℕ → Format TypeInfo
 type_behind tag =
     if nat_eq tag 0 then done top
@@ -44,7 +44,7 @@ type_info = andthen (number 1) type_behind
 unfoldable pub type_table : Format (List TypeInfo)
 type_table = andthen (number 2) (λ count. times count type_info)
 
--- what stands behind a frame type; 128 to 246 are reserved
+-- what stands after a frame type; 128 to 246 are reserved
 abbrev pub entry_behind : ℕ → Format MapEntry
 entry_behind type =
     if nat_le type 63 then done (same type)
@@ -67,7 +67,7 @@ stack_map = andthen (number 2) (λ count. times count map_entry)
 
 -- ---- whole bodies
 
--- the body is the spelling of these entries, and nothing stands behind them
+-- the body is the spelling of these entries, and nothing stands after them
 abbrev pub IsMap : List ℕ → List MapEntry → Type 0
 IsMap body entries = Spells stack_map body entries
 
@@ -88,7 +88,7 @@ tag_of uninitialized_this = 6
 tag_of (object class) = 7
 tag_of (uninitialized offset) = 8
 
--- behind the tag
+-- after the tag
 abbrev pub operand_pieces : TypeInfo → List Piece
 operand_pieces (object class) = field 2 class
 operand_pieces (uninitialized offset) = field 2 offset
@@ -115,7 +115,7 @@ abbrev pub frame_type_pieces : Option ℕ → List Piece
 frame_type_pieces (Some type) = field 1 type
 frame_type_pieces None = unspelled ∷ field 1 0
 
--- behind the frame type
+-- after the frame type
 abbrev pub behind_pieces : MapEntry → List Piece
 behind_pieces (same delta) = []
 behind_pieces (same_with_item delta item) = type_pieces item

@@ -34,7 +34,7 @@ pub struct RefusedEntry {
     pub fault: FrameFault,
 }
 
-/// Puts the types that an entry gives behind others.
+/// Puts the types that an entry gives after others.
 fn push_given<'a>(
     infos: &[TypeInfo],
     constants: &mut ConstantTypes<'_, 'a>,
@@ -143,7 +143,7 @@ fn all_locals<'a>(
     Ok(all)
 }
 
-/// The frame of an entry at an offset in bytes, behind locals that become those of the entry; or its fault of the least
+/// The frame of an entry at an offset in bytes, after locals that become those of the entry; or its fault of the least
 /// number.
 fn declare_one<'a, S: Starts>(
     alloc: Global,

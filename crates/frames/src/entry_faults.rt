@@ -9,7 +9,7 @@ use std::alloc::{AllocError, Global};
 /// The place of the entry, from 0, that has the first fault of the body of a StackMapTable (JVMS 4.7.4): a part of it
 /// passes the end, or its frame type or the tag of one of its types is none.
 ///
-/// `None` where the body is a stack map, or its fault is in the number of the entries or behind the last of them. The
+/// `None` where the body is a stack map, or its fault is in the number of the entries or after the last of them. The
 /// memory that is taken is that of one entry at a time.
 pub fn faulty_entry(alloc: Global, body: &[u8]) -> Result<Option<usize>, AllocError>
     ensures { IfOk result (λ o. o ≡ faulty_entry body.now) }

@@ -32,7 +32,7 @@ fn behind_tag(tag: u8, cursor: &mut Cursor<'_>) -> Result<TypeInfo, ReadFault>
     }
 }
 
-/// A type: its tag, and what stands behind it.
+/// A type: its tag, and what stands after it.
 #[tactic(auto, unfolding(crate::specs::StackMaps::type_info))]
 pub fn read_type(cursor: &mut Cursor<'_>) -> Result<TypeInfo, ReadFault>
     ensures { GoesOn type_info info_of cursor.old cursor.new result }
@@ -125,7 +125,7 @@ fn behind_type(
     }
 }
 
-/// An entry: its frame type, and what stands behind it.
+/// An entry: its frame type, and what stands after it.
 #[tactic(auto, unfolding(crate::specs::StackMaps::map_entry))]
 pub fn read_entry(alloc: Global, cursor: &mut Cursor<'_>) -> Result<MapEntry, ReadFault>
     ensures { GoesOn map_entry entry_of cursor.old cursor.new result }

@@ -36,7 +36,7 @@ fn put_type(out: &mut Output, info: TypeInfo) -> Result<(), WriteFault>
     }
 }
 
-/// Types one behind the other.
+/// Types one after the other.
 fn put_types(out: &mut Output, types: &[TypeInfo]) -> Result<(), WriteFault>
     ensures { Goes (flat_map type_pieces (map info_of types.now)) out.old out.new result }
 {
@@ -154,7 +154,7 @@ fn put_entry(out: &mut Output, entry: &MapEntry) -> Result<(), WriteFault>
     put_behind(out, entry)
 }
 
-/// Entries one behind the other.
+/// Entries one after the other.
 fn put_entries(out: &mut Output, entries: &[MapEntry]) -> Result<(), WriteFault>
     ensures { Goes (flat_map entry_pieces (map entry_of entries.now)) out.old out.new result }
 {

@@ -33,7 +33,7 @@ fn copy_of<'a>(alloc: Global, types: &[VType<'a>]) -> Result<Vec<VType<'a>>, All
     Ok(copy)
 }
 
-/// Puts the slots of types behind the others.
+/// Puts the slots of types after the others.
 fn push_slots<C: Classes>(
     slots: &mut Vec<u32>,
     types: &[VType<'_>],

@@ -79,7 +79,7 @@ fn has_wrong<S: Starts>(wrong: Wrong, entry: &MapEntry, pool: &Pool<'_>, starts:
     }
 }
 
-/// How much an entry of a stack map leaves, and behind how much it stands.
+/// How much an entry of a stack map leaves, and after how much it stands.
 #[derive(Clone, Copy, Debug)]
 pub struct Sizes {
     /// How many locals stand in front of it: a long or double is one of them.

@@ -41,7 +41,7 @@ pub enum MapEntry {
     Chop(u8, u16),
     /// The locals as before and no stack.
     SameExtended(u16),
-    /// The locals as before and these behind them, 1 to 3, and no stack.
+    /// The locals as before and these after them, 1 to 3, and no stack.
     Append(u16, Vec<TypeInfo>),
     /// These locals, and this stack, whose top is last.
     Full(u16, Vec<TypeInfo>, Vec<TypeInfo>),
@@ -109,7 +109,7 @@ impl<'a> StackMap<'a> {
     }
 }
 
-/// A tag, and a number of two bytes behind 7 and 8. Refused are 2 `EndsEarly` at a number that is not whole, and 48
+/// A tag, and a number of two bytes after 7 and 8. Refused are 2 `EndsEarly` at a number that is not whole, and 48
 /// `BadTypeTag` at a tag over 8. Each value has a spelling.
 impl<'a> Part<'a> for TypeInfo {
     ghost use Rattle.frames.specs.StackMaps as maps;

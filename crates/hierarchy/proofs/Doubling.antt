@@ -17,7 +17,7 @@ use Rattle.hierarchy.proofs.Names.{same_some, some_same, none_some, no_place, fo
 use Rattle.hierarchy.proofs.Ancestors.{climb_on, taken, own_super, at_found, halved, none_left}
 use Rattle.hierarchy.proofs.Depths.{past_depth, super_there, no_longer}
 
--- what stands in a list that one is put behind
+-- what stands in a list that one is put after
 pub appended : {X : Type 0} (xs : List X) (x y : X) (i : ℕ) → slice_get (xs ++ x ∷ []) i ≡ Some y → (slice_get xs i ≡ Some y) ⊎ ((i ≡ length xs) × (y ≡ x))
 appended [] x y zero e = inr (refl, sym (some_same e))
 appended [] x y (suc i) e = absurd (none_some e)

@@ -274,7 +274,7 @@ module _ (numbers : TextNumbers) (class : List ℕ) (classes : List ClassFact) (
       subst (λ ms. AreFlags numbers class (classes ++ with_members (fact_of c) ms ∷ []) new) one_more
       (put_one numbers class classes (fact_of c) (member_of m) (members_from (left + 1)) old new at flag good t.0 t.1 t.2 t.3 f written kept)
 
--- behind the last member there is none
+-- after the last member there is none
 pub no_members_kept : (numbers : TextNumbers) (class : List ℕ) (classes : List ClassFact) (c : Summary) (left : ℕ) (old : BTreeMap Spot Bool) → length c.members.items ≤ left
     → AreFlags numbers class classes old → AreFlags numbers class (classes ++ with_members (fact_of c) (map member_of (drop left c.members.items)) ∷ []) old
 no_members_kept numbers class classes c left old le kept =

@@ -1,4 +1,4 @@
--- Classes with all that stand above them: a step upward, and one more class put behind the others.
+-- Classes with all that stand above them: a step upward, and one more class put after the others.
 use Rattle.std.proofs.Common.{◌≡◌, ◌==◌, ℕ, suc, ◌+◌, ◌-◌, ◌<◌, ◌≤◌, Bool, true, false, cond, List, [], ◌∷◌, ◌++◌, get_or, length, slice_get, Option, Some, None, option_map, IsSome, is_some, MatchOption, refl, ap, sym, ◌∙◌, subst, arith}
 use Rattle.std.specs.BTreeMap.{BTreeMap, get, is_at}
 use Rattle.std.specs.Borrow.{Bor}
@@ -28,7 +28,7 @@ use Rattle.hierarchy.proofs.Upward.{found_own, no_more}
 -- ---- classes in turn
 
 module _ (classes : List ClassFact) where
-  -- one more behind the last
+  -- one more after the last
   pub turn_more : (cs : List ClassFact) (c : ClassFact) (o : Option ClassFact) → AreInTurn classes cs (Some c) → IsOwn classes c → class_above classes c ≡ o → AreInTurn classes (cs ++ c ∷ []) o
   turn_more [] c o t own e = (own, e, tt)
   turn_more (x ∷ []) c o t own e = (t.0, t.1, (own, e, tt))
@@ -158,7 +158,7 @@ placed classes a good c own some = by (place_among classes a.places c.name) refl
         let at = good.places.leads c.name p e in
         (p, at.1 ∙ ap (λ x. Some x) (one_class classes at.0 c (good.own p at.0 at.1) own at.2))
 
--- a class that has none is put behind all others
+-- a class that has none is put after all others
 module _ (classes : List ClassFact) (old new : Ancestry) (s : Bor Summary) (own : IsOwn classes (fact_of s.now)) (none : place_among classes old.places s.now.name.now ≡ None)
     (more : new.classes.items ≡ old.classes.items ++ s ∷ []) (written : (t : List ℕ) → place_among classes new.places t ≡ cond (bytes_eq s.now.name.now t) (Some (length old.classes.items)) (place_among classes old.places t)) where
   abbrev c : ClassFact

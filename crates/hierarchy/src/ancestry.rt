@@ -1,4 +1,4 @@
-//! Classes with all that stand above them, each behind its superclass.
+//! Classes with all that stand above them, each after its superclass.
 ghost use Rattle.std.specs.Prelude.{◌≡◌, ◌<◌, List, [], length, IfOk, OnOk};
 ghost use Rattle.hierarchy.specs.private.Ancestry.{Adds, EndsBelow, IsAncestry, IsOwn, facts_at, place_among};
 ghost use Rattle.hierarchy.specs.Class.{ClassFact};
@@ -11,7 +11,7 @@ use crate::superclasses::class_above;
 use std::alloc::{AllocError, Global};
 use std::collections::BTreeMap;
 
-/// Some of all classes, each behind its superclass.
+/// Some of all classes, each after its superclass.
 #[derive(Drop)]
 pub struct Ancestry<'k> {
     pub classes: Vec<&'k Summary<'k>>,
@@ -66,7 +66,7 @@ impl<'k> Ancestry<'k> {
         Ok(way)
     }
 
-    /// Puts a class behind all others, where it has no place.
+    /// Puts a class after all others, where it has no place.
     fn push<C: Classes>(&mut self, classes: &C, class: &'k Summary<'k>) -> Result<(), AllocError>
         requires own { IsOwn (C.content classes.now) (fact_of class.now) }
         ensures { OnOk result (Adds (C.content classes.now) self.old self.new (fact_of class.now)) }

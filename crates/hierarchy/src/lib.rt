@@ -15,14 +15,14 @@
 //! - `checked_classes`: a list of classes that keeps the rules.
 //! - `chains`: classes by a walk along their superclasses.
 //! - `skips`: skips up the chain of superclasses, by doubled steps.
-//! - `row_table`: rows of ancestors, one behind the other.
+//! - `row_table`: rows of ancestors, one after the other.
 //! - `rows`: classes by rows of ancestors.
 //! - `member_references`: references to members that are protected and of another package.
 //! - `superclasses`: the classes above a class.
 //! - `spot`: members by numbers of their texts, at a class above.
 //! - `starts`: where references begin to look for declarations.
 //! - `flags`: declarations of the classes above, and the first from a class upward.
-//! - `ancestry`: classes with all that stand above them, each behind its superclass.
+//! - `ancestry`: classes with all that stand above them, each after its superclass.
 //! - `versions`: arrays of numbers whose versions share what is equal.
 //! - `member_key`: members by numbers of their texts.
 //! - `member_numbers`: numbers of members, by kind, name and descriptor.

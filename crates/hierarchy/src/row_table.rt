@@ -1,4 +1,4 @@
-//! Rows of ancestors, one behind the other.
+//! Rows of ancestors, one after the other.
 ghost use Rattle.std.specs.Prelude.{◌^◌, ◌<◌, ◌≤◌, ◌↔◌, IsTrue, IfOk, OnOk, length, map};
 ghost use Rattle.hierarchy.specs.private.Skips.{AreLong, IsRowAdded, FitTogether, HaveRows};
 
@@ -22,7 +22,7 @@ pub fn has_entry(depth: u16, k: usize) -> bool
     k < 16 && depth >> k > 0
 }
 
-// Puts the row of a place behind the entries.
+// Puts the row of a place after the entries.
 fn push_row(
     tables: &[Vec<Skip>],
     place: usize,

@@ -1,6 +1,6 @@
 //! The steps of the verifier over many class files in memory, to be called from C: what `bench/in_process` measures.
 //!
-//! Files stand one behind the other in `bytes`; `ends` has for each the offset in bytes behind it. A file that is no
+//! Files stand one after the other in `bytes`; `ends` has for each the offset in bytes after it. A file that is no
 //! class file, or not well formed, counts as none. `lines` has what `bench/hierarchy` measures.
 #![tactic(auto)]
 

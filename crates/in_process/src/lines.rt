@@ -20,7 +20,7 @@ fn summary<'a>(alloc: Global, name: &'a [u8], superclass: Option<&'a [u8]>) -> S
     }
 }
 
-/// The classes of these names and `java/lang/Object`: each below the one behind it, and the last below Object; or all
+/// The classes of these names and `java/lang/Object`: each below the one after it, and the last below Object; or all
 /// below Object.
 fn list_of<'a>(
     alloc: Global,
@@ -58,7 +58,7 @@ fn count_below<C: Classes>(classes: &C, names: &[[u8; 2]], rounds: u32) -> u32 {
     count
 }
 
-/// Rows of so many classes and Object, with a mark before they are made and one behind, and their answers.
+/// Rows of so many classes and Object, with a mark before they are made and one after, and their answers.
 fn rows_of(alloc: Global, count: u16, in_line: bool, rounds: u32) -> Option<u32> {
     let hasher: BuildHasherDefault<FoldHasher> = BuildHasherDefault::new();
     let names = numbers(alloc, count).ok()?;

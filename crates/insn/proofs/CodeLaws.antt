@@ -233,7 +233,7 @@ not_read at others e f (inr h) (inl k) =
     absurd (spelled_no_fault (instruction_at at) h.0 h.1 at (Err e) k.1 h.3 (subst (λ (t : List ℕ). FirstFault (instruction_at at) at t k.1) h.2 k.2))
 not_read at others e f (inr h) (inr k) = let same = (fronts at h.0 k.0 h.1 k.1 (Err e) (Err f) h.3 k.3 (sym h.2 ∙ k.2)).0 in cc
 
--- behind instructions that stand in front of the same bytes stands the same fault
+-- after instructions that stand in front of the same bytes stands the same fault
 one_fault_behind : (xs ys : List (ℕ × Instruction)) (at : ℕ) (front behind others rest bytes : List ℕ) (e f : CodeFault)
     → bytes ≡ front ++ behind → bytes ≡ others ++ rest → SpellsCode at front xs → SpellsCode at others ys → 0 < length behind → 0 < length rest
     → FaultyInstruction (at + length front) behind e → FaultyInstruction (at + length others) rest f → e ≡ f

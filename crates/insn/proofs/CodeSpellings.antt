@@ -1,4 +1,4 @@
--- Instructions one behind the other, as they are written.
+-- Instructions one after the other, as they are written.
 use Rattle.std.proofs.Common.{◌≡◌, ℕ, ◌+◌, ◌<◌, ◌≤◌, true, false, List, [], ◌∷◌, ◌++◌, length, Result, Ok, Err, refl, sym, ap, subst, ◌∙◌, append_assoc, arith, ltb, map, drop, get_or, ◌⊎◌, inl, inr}
 use Rattle.std.specs.Prelude.{IfOk}
 use Rattle.std.proofs.lemmas.Bool.{ltb-true, ltb-false}
@@ -129,7 +129,7 @@ large_is_no_code all bytes large fit code =
 
 -- ---- a list, as a program writes it
 
--- what is left of the list is the instruction and what is left behind it
+-- what is left of the list is the instruction and what is left after it
 left : (list : List Insn) (k : ℕ) (d : Insn) → k < length list → map view (drop k list) ≡ view (get_or list k d) ∷ map view (drop (k + 1) list)
 left list k d lt = ap (λ (t : List Insn). map view t) (drop_more list k d lt)
 

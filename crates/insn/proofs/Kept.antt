@@ -27,7 +27,7 @@ behind_front : (first others : List ℕ) → length first ≡ 4 → behind (firs
 behind_front (a ∷ b ∷ c ∷ d ∷ []) others long = refl
 behind_front _ others long = absurd (omega (arith, long))
 
--- a multiple of four bytes behind at most three
+-- a multiple of four bytes after at most three
 padding_front : (padding others : List ℕ) (at n : ℕ) → length padding ≡ padding_at at → length others ≡ 4 * n
     → (padding_of (padding ++ others) ≡ padding) × (fours (padding ++ others) ≡ others)
 padding_front padding others at n short long =

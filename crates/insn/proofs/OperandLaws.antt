@@ -1,4 +1,4 @@
--- Exactly one list of bytes spells an instruction, or the operands behind an opcode, that agree; none spells those that
+-- Exactly one list of bytes spells an instruction, or the operands after an opcode, that agree; none spells those that
 -- do not.
 use Rattle.std.proofs.Common.{◌≡◌, ℕ, ℤ, ◌^◌, ◌<◌, true, cond, Option, Some, None, List, [], ◌++◌, length, Result, Ok, Err, refl, sym, ap, subst, ◌∙◌, append_assoc, arith, eqb, SFits, of_z, w8, w16, w32}
 use Rattle.std.specs.Int.{cast_signed, cast_unsigned}

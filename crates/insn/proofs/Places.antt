@@ -61,7 +61,7 @@ module _ (xs : List (ℕ × Insn)) (at : ℕ) (rising : StartsRise 0 (views xs))
       let behind : k + 1 ≡ suc k = omega arith in
       (r.0 ∙ ap (λ b. Some b) (sym e), r.1 ∙ ap (λ n. option_map (λ (x : ℕ × Insn). x.0) (slice_get xs n)) (sym behind) ∙ sym f)
 
--- ---- behind the last of offsets that rise nothing begins
+-- ---- after the last of offsets that rise nothing begins
 
 pub past_last : {A : Type 0} (n : ℕ) (xs : List (ℕ × A)) (i : ℕ) (d : ℕ × A) (at : ℕ) → StartsRise n xs → i + 1 ≡ length xs → (get_or xs i d).0 < at
     → (n ≤ (get_or xs i d).0) × (at_offset xs at ≡ None)

@@ -59,7 +59,7 @@ zero_there zero n = refl
 zero_there (suc k) zero = refl
 zero_there (suc k) (suc n) = zero_there k n
 
--- what stands at a number, behind which zeros stand
+-- what stands at a number, after which zeros stand
 pub length_there : (os : List Opcode) (k n : ℕ) → slice_index (map (λ o. unconstrained_length (Some o)) os ++ replicate k 0) n ≡ unconstrained_length (slice_get os n)
 length_there [] k n = zero_there k n
 length_there (o ∷ os) k zero = refl

@@ -1,4 +1,4 @@
--- Which bytes spell what stands behind an opcode: those that it is written as, and no others.
+-- Which bytes spell what stands after an opcode: those that it is written as, and no others.
 use Rattle.std.proofs.Common.{◌≡◌, ℕ, ◌^◌, ◌<◌, Bool, true, false, cond, Option, Some, None, List, [], ◌++◌, Ok, Err, refl, sym, ap, subst, ◌∙◌, eqb, w8, w16}
 use Rattle.std.specs.Int.{cast_signed, cast_unsigned, Width}
 use Rattle.std.proofs.lemmas.Bool.{eqb-true}
@@ -142,7 +142,7 @@ invoke_dynamic_known at bytes x fit s =
 
 -- ---- wide
 
--- behind the opcode that is modified
+-- after the opcode that is modified
 modified_bytes : (k : ℕ) (o : Opcode) (rest others : List ℕ) → opcode_of k ≡ Some o → rest ≡ others → big_bytes 1 k ++ rest ≡ big_bytes 1 (opcode_number o) ++ others
 modified_bytes k o rest others named is =
     ap (λ (n : ℕ). big_bytes 1 n ++ rest) (sym (has_number k o named)) ∙ ap (λ (t : List ℕ). big_bytes 1 (opcode_number o) ++ t) is

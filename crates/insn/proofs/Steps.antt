@@ -1,4 +1,4 @@
--- Reading an instruction part by part: what is read behind a part that was read.
+-- Reading an instruction part by part: what is read after a part that was read.
 use Rattle.std.proofs.Common.{◌≡◌, ℕ, ℤ, Result, Ok, Err, ap, ◌∙◌, SFits, to_z, of_z, w32}
 use Rattle.std.specs.Int.{cast_signed}
 use Rattle.std.proofs.lemmas.Int.{to_z-of_z}

@@ -1,4 +1,4 @@
--- Instructions taken by one look at the bytes in front: any bytes behind an opcode with unconstrained operands are its
+-- Instructions taken by one look at the bytes in front: any bytes after an opcode with unconstrained operands are its
 -- operands.
 use Rattle.std.proofs.Common.{◌≡◌, ◌∙◌, ℕ, ◌+◌, zero, suc, ◌<◌, ◌≤◌, true, false, List, [], ◌∷◌, ◌++◌, length, get_or, take, drop, Option, Some, None, Result, Ok, Err, is_ok, Bool, refl, sym, ap, subst, arith}
 use Rattle.std.proofs.lemmas.Bool.{le-ltb}
@@ -15,8 +15,8 @@ use Rattle.layout.specs.declared.fault.ReadFault.{ReadFault}
 use Rattle.insn.specs.declared.fault.CodeFault.TheVariants.{NonZeroByte}
 use Rattle.insn.specs.declared.opcode.Opcode.{Opcode}
 use Rattle.insn.specs.declared.opcode.Opcode.TheVariants.{New}
-use Rattle.insn.specs.declared.operation.Act as program
-use Rattle.insn.specs.declared.operation.Meaning.{Meaning}
+use Rattle.insn.specs.declared.acts.Act as program
+use Rattle.insn.specs.declared.acts.Meaning.{Meaning}
 use Rattle.insn.specs.declared.table.Form.{Form}
 use Rattle.insn.specs.declared.table.Form.TheVariants as forms
 use Rattle.insn.specs.Code.{SpellsInstruction, modified}
@@ -31,13 +31,13 @@ use Rattle.insn.specs.private.Parts.{IsActAlways, IsActBy}
 use Rattle.insn.specs.Unconstrained.{form_length, unconstrained_length, HasUnconstrained}
 use Rattle.insn.specs.private.Taken.{SkipsUnconstrained, TakesNew, TakesAct, HasAct}
 
--- operands that stand behind an opcode, of its form
+-- operands that stand after an opcode, of its form
 pub record Behind (f : Form) (bytes : List ℕ) : Type 0 where
   pub operands : Operands
   pub spelled : (at : ℕ) → Spells (operands_at at f) bytes (Ok operands)
   pub plain : (o : Opcode) → modified o operands ≡ o
 
--- an opcode and what stands behind it
+-- an opcode and what stands after it
 pub spelled_behind : (at n : ℕ) (o : Opcode) (bytes : List ℕ) (x : Operands) → opcode_of n ≡ Some o → Spells (operands_at at (form o)) bytes (Ok x)
     → SpellsInstruction at (n ∷ bytes) (record { opcode = o; operands = x })
 unfolding instruction_at
@@ -64,7 +64,7 @@ two_numbers n m make bytes long = (
   one_number m (make (big_number n (take n bytes))) (drop n bytes) (omega (arith, long, length-drop n bytes)),
 )
 
--- any bytes, as many as an opcode of this form has behind it, are its operands
+-- any bytes, as many as an opcode of this form has after it, are its operands
 operands_in : (f : Form) (bytes : List ℕ) → 1 + length bytes ≡ form_length f → Behind f bytes
 unfolding operands_at
 operands_in forms.Nothing bytes e = record {
@@ -132,7 +132,7 @@ opcode_first zero rest d some long = absurd (omega (arith, some))
 opcode_first (suc k) [] d some long = absurd (omega (arith, long))
 opcode_first (suc k) (b ∷ bytes) d some long = refl
 
--- the numbers behind it
+-- the numbers after it
 pub byte_there : (rest : List ℕ) (d : ℕ) → 2 ≤ length rest → get_or rest 1 d ≡ big_number 1 (drop 1 (take 2 rest))
 byte_there (n ∷ a ∷ rest) d long = omega arith
 byte_there _ d long = absurd (omega (arith, long))
@@ -210,7 +210,7 @@ skipped_when view old new k d (Err f) said more is some read e = (
 
 -- ---- an instruction that is taken
 
--- the instruction whose opcode stands in front, with these operands behind it, in k bytes
+-- the instruction whose opcode stands in front, with these operands after it, in k bytes
 pub taken : {X : Type 0} (view : X → List ℕ) (old new : Place) (k d : ℕ) (answer : Result X ReadFault) (b : X) (o : Opcode) (x : Operands) → 0 < k → opcode_of (get_or old.rest 0 d) ≡ Some o
     → Spells (operands_at old.at (form o)) (drop 1 (take k old.rest)) (Ok x) → Reads (part k done) view old new answer → Some b ≡ result_ok answer
     → (first : List ℕ) × SpellsInstruction old.at first (record { opcode = o; operands = x }) × Took first old new
@@ -230,7 +230,7 @@ new_taken view old new d k answer b long first is read e =
     let same : big_number 2 bytes ≡ k = ap (big_number 2) there ∙ sym is in
     taken view old new 3 d answer b New (index k) (omega arith) named (subst (λ (j : ℕ). Spells (operands_at old.at forms.Index) bytes (Ok (index j))) same spelled) read e
 
--- operands that are one number, behind an opcode, and the act with them
+-- operands that are one number, after an opcode, and the act with them
 pub has_number : (n : ℕ) (make : ℕ → Operands) (bytes : List ℕ) (f : Form) (m : Meaning) (a : program.Act) → 1 + n ≤ length bytes
     → ((at : ℕ) → operands_at at f ≡ andthen (number n) (λ j. done (outcome (make j)))) → ((j : ℕ) (o : Opcode) → modified o (make j) ≡ o)
     → act_view a ≡ act_of m (make (big_number n (drop 1 (take (1 + n) bytes)))) → HasAct bytes f m a (1 + n)

@@ -1,4 +1,4 @@
--- Code (JVMS 4.7.3, 4.9.1, 6.5): instructions one behind the other, each at the offset where those before it end.
+-- Code (JVMS 4.7.3, 4.9.1, 6.5): instructions one after the other, each at the offset where those before it end.
 use Rattle.std.specs.Prelude.{◌≡◌, ℕ, ◌+◌, ◌<◌, List, [], ◌∷◌, ◌++◌, length, Option, Some, None, Result, Ok, Err, ◌⊎◌}
 use Rattle.layout.specs.Place.{Place, Took}
 use Rattle.layout.specs.declared.fault.ReadFault.{ReadFault}
@@ -28,7 +28,7 @@ SpellsCode at bytes (x ∷ xs) =
     (first : List ℕ) × (others : List ℕ) × (bytes ≡ first ++ others) × (x.0 ≡ at) × SpellsInstruction at first x.1
     × SpellsCode (at + length first) others xs
 
--- The bytes are no code: behind instructions stands one at fault.
+-- The bytes are no code: after instructions stands one at fault.
 pub record FaultyCode (bytes : List ℕ) (e : CodeFault) : Type 0 where
   pub instructions : List (ℕ × Instruction)
   pub front : List ℕ
@@ -43,13 +43,13 @@ abbrev pub UnlessMemory : CodeFault → Type 0 → Type 0
 UnlessMemory OutOfMemory p = Unit {0}
 UnlessMemory e p = p
 
--- One instruction was read: bytes in front are it, and the cursor is behind them; or none is in front, and the cursor
+-- One instruction was read: bytes in front are it, and the cursor is after them; or none is in front, and the cursor
 -- is where it was.
 abbrev pub ReadsInstruction : {X : Type 0} → (X → Instruction) → Place → Place → Result X CodeFault → Type 0
 ReadsInstruction view old new (Ok x) = (first : List ℕ) × SpellsInstruction old.at first (view x) × Took first old new
 ReadsInstruction view old new (Err e) = FaultyInstruction old.at old.rest e × (new ≡ old)
 
--- A step through code: the instruction in front with its offset, and the place is behind it; or the fault of the one in
+-- A step through code: the instruction in front with its offset, and the place is after it; or the fault of the one in
 -- front, and nothing is left; or nothing, since nothing was left.
 abbrev pub StepsThrough : {X : Type 0} → (X → ℕ × Instruction) → Place → Option (Result X CodeFault) → Place → Type 0
 StepsThrough view old None new = (old.rest ≡ []) × (new ≡ old)
@@ -70,13 +70,13 @@ abbrev pub HasInstruction : Place → Type 0
 HasInstruction p = (i : Instruction) × (first : List ℕ) × (others : List ℕ) × (p.rest ≡ first ++ others)
     × SpellsInstruction p.at first i
 
--- An instruction without operands was taken, and the place is behind it; or nothing was, and the place is where it was.
+-- An instruction without operands was taken, and the place is after it; or nothing was, and the place is where it was.
 abbrev pub TakesAlone : Place → Place → Option Opcode → Type 0
 TakesAlone old new (Some o) = (form o ≡ forms.Nothing) × (first : List ℕ)
     × SpellsInstruction old.at first (record { opcode = o; operands = nothing }) × Took first old new
 TakesAlone old new None = new ≡ old
 
--- The opcode that says what is done: behind `wide` the one that is modified (JVMS 6.5, wide).
+-- The opcode that says what is done: after `wide` the one that is modified (JVMS 6.5, wide).
 abbrev pub modified : Opcode → Operands → Opcode
 modified o (wide_local opcode local) = opcode
 modified o (wide_increment opcode local by) = opcode

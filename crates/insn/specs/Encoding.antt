@@ -14,7 +14,7 @@ abbrev pub instructions : List (ℕ × Instruction) → List Instruction
 instructions [] = []
 instructions (x ∷ xs) = x.1 ∷ instructions xs
 
--- The bytes are these instructions one behind the other.
+-- The bytes are these instructions one after the other.
 pub record SpellsList (bytes : List ℕ) (is : List Instruction) : Type 0 where
   pub list : List (ℕ × Instruction)
   pub same : instructions list ≡ is

@@ -24,7 +24,7 @@ abbrev pub beside : {V : Type 0} → Place → Result V CodeFault → Result (V 
 beside p (Ok v) = Ok (v, p)
 beside p (Err e) = Err e
 
--- what is made of what reading by a format of instructions gives: the value and the place behind it, or the fault
+-- what is made of what reading by a format of instructions gives: the value and the place after it, or the fault
 abbrev pub judged : {V : Type 0} → ℕ → Result (Result V CodeFault × Place) ReadFault → Result (V × Place) CodeFault
 judged at (Ok x) = beside x.1 x.0
 judged at (Err e) = Err (CutInstruction at)

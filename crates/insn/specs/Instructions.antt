@@ -1,4 +1,4 @@
--- Instructions, and which bytes spell them (JVMS 6.5). An instruction is an opcode and what stands behind it. The bytes
+-- Instructions, and which bytes spell them (JVMS 6.5). An instruction is an opcode and what stands after it. The bytes
 -- of one are a format of parts in their order; where a part shows that no instruction stands there, the format ends
 -- with the fault in place of an instruction. All depends on the offset of the instruction, since a switch is padded by
 -- it.
@@ -14,7 +14,7 @@ use Rattle.insn.specs.declared.table.Form.TheVariants as forms
 use Rattle.insn.specs.declared.opcode.Opcode.{Opcode}
 use Rattle.insn.specs.Opcodes.{opcode_of, form}
 
--- what stands behind an opcode; the tables of switches are their bytes
+-- what stands after an opcode; the tables of switches are their bytes
 pub data Operands : Type 0 where
   nothing : Operands
   byte : (value : ℤ) → Operands
@@ -31,7 +31,7 @@ pub data Operands : Type 0 where
   multi_new_array : (index dimensions : ℕ) → Operands
   table_switch : (padding : List ℕ) (default low high : ℤ) (offsets : List ℕ) → Operands
   lookup_switch : (padding : List ℕ) (default count : ℤ) (pairs : List ℕ) → Operands
-  -- behind `wide`: an opcode, and its operands in twice the bytes
+  -- after `wide`: an opcode, and its operands in twice the bytes
   wide_local : (opcode : Opcode) (local : ℕ) → Operands
   wide_increment : (opcode : Opcode) (local : ℕ) (by : ℤ) → Operands
 
@@ -129,7 +129,7 @@ unfoldable pub invoke_dynamic_at : ℕ → Format Outcome
 invoke_dynamic_at at = andthen (number 2) (λ index. andthen (number 2) (λ zero.
     if nat_eq zero 0 then spelled (invoke_dynamic index) else faulty (NonZeroByte at)))
 
--- ---- what stands behind an opcode of a form
+-- ---- what stands after an opcode of a form
 
 unfoldable pub operands_at : ℕ → Form → Format Outcome
 operands_at at forms.Nothing = spelled nothing

@@ -2,8 +2,8 @@
 use Rattle.std.specs.Prelude.{ℕ, Bool, true, false, if◌then◌else◌}
 use Rattle.names.specs.declared.base.Primitive.{Primitive}
 use Rattle.names.specs.declared.base.Primitive.TheVariants as primitives
-use Rattle.insn.specs.declared.operation.Kind.{Kind}
-use Rattle.insn.specs.declared.operation.Kind.TheVariants.{Int, Long, Float, Double}
+use Rattle.insn.specs.declared.kinds.Kind.{Kind}
+use Rattle.insn.specs.declared.kinds.Kind.TheVariants.{Int, Long, Float, Double}
 
 -- a number of the kind takes two places: two locals, two units of the stack's depth (JVMS 2.6.1, 2.6.2)
 abbrev pub is_wide : Kind → Bool

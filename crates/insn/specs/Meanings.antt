@@ -5,11 +5,11 @@ use Rattle.std.specs.Int.{cast_signed, w32}
 use Rattle.byteorder.specs.Endian.{big_number}
 use Rattle.names.specs.declared.base.Primitive.{Primitive}
 use Rattle.names.specs.declared.base.Primitive.TheVariants as primitives
-use Rattle.insn.specs.declared.operation.Kind.{Kind}
-use Rattle.insn.specs.declared.operation.NumericOperator.{NumericOperator}
+use Rattle.insn.specs.declared.kinds.Kind.{Kind}
+use Rattle.insn.specs.declared.operators.NumericOperator.{NumericOperator}
 use Rattle.insn.specs.declared.stack.StackOperator.{StackOperator}
-use Rattle.insn.specs.declared.operation.Meaning.{Meaning}
-use Rattle.insn.specs.declared.operation.Meaning.TheVariants as means
+use Rattle.insn.specs.declared.acts.Meaning.{Meaning}
+use Rattle.insn.specs.declared.acts.Meaning.TheVariants as means
 use Rattle.insn.specs.Code.{modified}
 use Rattle.insn.specs.Instructions.{Instruction, Operands, pairs, constant, index, local, increment, branch, wide_branch, invoke_interface, invoke_dynamic, new_array, multi_new_array, table_switch, lookup_switch, wide_local, wide_increment}
 use Rattle.insn.specs.Opcodes.{meaning}
@@ -153,7 +153,7 @@ act_of means.Throw x = Throw
 act_of means.Monitor x = Monitor
 act_of means.Unsupported x = Unsupported
 
--- the act of an instruction; behind `wide` that of the opcode which is modified
+-- the act of an instruction; after `wide` that of the opcode which is modified
 abbrev pub act : Instruction → Act
 act i = act_of (meaning (modified i.opcode i.operands)) i.operands
 

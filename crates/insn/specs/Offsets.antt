@@ -27,7 +27,7 @@ pub record IsStart {A : Type 0} (code : List (ℕ × A)) (at : ℕ) : Type 0 whe
 abbrev pub has_offset : {A : Type 0} → List (ℕ × A) → ℕ → Bool
 has_offset code at = is_some (at_offset code at)
 
--- all begin at this offset or behind it, each behind the one before
+-- all begin at this offset or after it, each after the one before
 abbrev pub StartsRise : {A : Type 0} → ℕ → List (ℕ × A) → Type 0
 StartsRise at [] = Unit {0}
 StartsRise at (x ∷ xs) = (at ≤ x.0) × StartsRise (x.0 + 1) xs
@@ -36,7 +36,7 @@ abbrev pub first_offset : {A : Type 0} → List (ℕ × A) → Option ℕ
 first_offset [] = None
 first_offset (x ∷ xs) = Some x.0
 
--- the start behind the one at an offset
+-- the start after the one at an offset
 abbrev pub next_offset : {A : Type 0} → List (ℕ × A) → ℕ → Option ℕ
 next_offset [] at = None
 next_offset (x ∷ xs) at = if nat_eq x.0 at then first_offset xs else next_offset xs at

@@ -1,11 +1,11 @@
--- The instruction set (JVMS 6.5, 7): each opcode's number, the standard's name for it, what stands behind it, and what
+-- The instruction set (JVMS 6.5, 7): each opcode's number, the standard's name for it, what stands after it, and what
 -- it means.
 use Rattle.std.specs.Prelude.{ℕ, List, [], ◌∷◌, Option, slice_get, codes}
 use Rattle.names.specs.declared.base.Primitive.TheVariants as primitives
-use Rattle.insn.specs.declared.operation.Kind.TheVariants as kinds
-use Rattle.insn.specs.declared.operation.Meaning.{Meaning}
-use Rattle.insn.specs.declared.operation.Meaning.TheVariants as means
-use Rattle.insn.specs.declared.operation.NumericOperator.TheVariants as numerics
+use Rattle.insn.specs.declared.kinds.Kind.TheVariants as kinds
+use Rattle.insn.specs.declared.acts.Meaning.{Meaning}
+use Rattle.insn.specs.declared.acts.Meaning.TheVariants as means
+use Rattle.insn.specs.declared.operators.NumericOperator.TheVariants as numerics
 use Rattle.insn.specs.declared.stack.StackOperator.TheVariants as stacks
 use Rattle.insn.specs.declared.table.Form.{Form}
 use Rattle.insn.specs.declared.table.Form.TheVariants as forms

@@ -19,7 +19,7 @@ abbrev pub chosen : {A : Type 0} → List A → List ℕ → List A
 chosen items [] = []
 chosen items (n ∷ ns) = with_item (slice_get items n) (chosen items ns)
 
--- the stack behind a form: what it leaves, on what it did not take
+-- the stack after a form: what it leaves, on what it did not take
 abbrev pub rearranged : {A : Type 0} → StackForm → List A → List A
 rearranged form items = chosen items form.leaves ++ beneath form.takes items
 

@@ -1,4 +1,4 @@
--- The bytes of an instruction (JVMS 6.5, "Format"): its opcode, and its operands, one part behind the other.
+-- The bytes of an instruction (JVMS 6.5, "Format"): its opcode, and its operands, one part after the other.
 use Rattle.std.specs.Prelude.{◌≡◌, ℕ, ℤ, pos, ◌*◌, ◌<◌, Bool, true, false, not, ◌&&◌, List, [], ◌++◌, length, nat_eq, int_lt, FitsSigned}
 use Rattle.std.specs.Int.{cast_unsigned, w8, w16, w32}
 use Rattle.std.specs.Int.RustNames.{unsigned_abs}

@@ -1,4 +1,4 @@
--- The parts of a switch by all bytes behind its opcode, as an instruction keeps them (JVMS 6.5, tableswitch and
+-- The parts of a switch by all bytes after its opcode, as an instruction keeps them (JVMS 6.5, tableswitch and
 -- lookupswitch). All but the padding are fours of bytes, so the padding is what is left of the length.
 use Rattle.std.specs.Prelude.{ℕ, ℤ, negsuc, ◌%◌, List, [], ◌∷◌, length, take, drop}
 use Rattle.std.specs.Int.{cast_signed, w32}
@@ -8,7 +8,7 @@ use Rattle.insn.specs.Instructions.{Operands, table_switch, lookup_switch}
 abbrev pub padding_of : List ℕ → List ℕ
 padding_of bytes = take (length bytes % 4) bytes
 
--- the bytes behind the padding
+-- the bytes after the padding
 abbrev pub fours : List ℕ → List ℕ
 fours bytes = drop (length bytes % 4) bytes
 
@@ -18,7 +18,7 @@ abbrev pub number_of : List ℕ → ℤ
 number_of (a ∷ b ∷ c ∷ d ∷ others) = cast_signed w32 (big_number 4 (a ∷ b ∷ c ∷ d ∷ []))
 number_of _ = negsuc 0
 
--- and the fours behind it
+-- and the fours after it
 abbrev pub behind : List ℕ → List ℕ
 behind (a ∷ b ∷ c ∷ d ∷ others) = others
 behind _ = []

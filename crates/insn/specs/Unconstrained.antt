@@ -1,4 +1,4 @@
--- Instructions whose operands are unconstrained: any bytes behind the opcode, as many as its form has, are its operands
+-- Instructions whose operands are unconstrained: any bytes after the opcode, as many as its form has, are its operands
 -- (JVMS 6.5).
 use Rattle.std.specs.Prelude.{ℕ, ◌<◌, ◌≤◌, List, [], ◌∷◌, length, Option, Some, None}
 use Rattle.insn.specs.declared.opcode.Opcode.{Opcode}

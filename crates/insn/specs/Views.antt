@@ -1,7 +1,7 @@
 -- The program's instructions, without where their bytes lie in memory.
 use Rattle.std.specs.Prelude.{ℕ, ℤ, List, map}
-use Rattle.insn.specs.declared.operation.Act.{Act}
-use Rattle.insn.specs.declared.operation.Act.TheVariants as acts
+use Rattle.insn.specs.declared.acts.Act.{Act}
+use Rattle.insn.specs.declared.acts.Act.TheVariants as acts
 use Rattle.insn.specs.declared.switch.Targets.{Targets}
 use Rattle.insn.specs.declared.switch.Targets.TheVariants as targets
 use Rattle.insn.specs.declared.switch.Offsets.{Offsets}

@@ -13,7 +13,7 @@ pub enum Branches<'a> {
 }
 
 /// The targets of an instruction one by one, the default of a switch first: each the offset in bytes of where it leads
-/// in the code, which is negative or behind the code where the instruction leads out of it.
+/// in the code, which is negative or after the code where the instruction leads out of it.
 #[derive(Clone, Copy, Debug)]
 pub struct BranchTargets<'a> {
     at: u16,

@@ -7,7 +7,7 @@ ghost use Rattle.insn.specs.Offsets.{StartsRise};
 ghost use Rattle.insn.specs.Instructions.{Instruction};
 ghost use Rattle.insn.specs.Views.{views};
 
-use crate::code_array::Instructions;
+use crate::instructions::Instructions;
 use crate::fault::CodeFault;
 use crate::instruction::Insn;
 use std::alloc::Global;

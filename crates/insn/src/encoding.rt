@@ -9,11 +9,11 @@ ghost use Rattle.insn.specs.Views.{operands_view, view};
 
 use crate::instruction::{Insn, Operands};
 use crate::switch::{LookupSwitch, TableSwitch};
-use crate::writing::put_insn;
+use crate::instruction_writing::put_insn;
 use layout::{MAX_CODE_BYTES, WriteFault};
 use std::alloc::Global;
 
-/// How many bytes of the room are left behind a switch: none where it does not hold them.
+/// How many bytes of the room are left after a switch: none where it does not hold them.
 fn behind_switch(room: usize, numbers: usize, padding: &[u8], table: &[u8]) -> Option<usize>
     requires { numbers ≤ 12 }
     ensures { SomeIff result (numbers + (length padding.now + length table.now) ≤ room)
@@ -24,7 +24,7 @@ fn behind_switch(room: usize, numbers: usize, padding: &[u8], table: &[u8]) -> O
         .checked_sub(table.len())
 }
 
-/// How many bytes of the room are left behind the operands: none where it does not hold them.
+/// How many bytes of the room are left after the operands: none where it does not hold them.
 fn behind_operands(room: usize, operands: Operands<'_>) -> Option<usize>
     ensures { SomeIff result (operands_size (operands_view operands.entry) ≤ room)
         (room - operands_size (operands_view operands.entry)) }
@@ -54,7 +54,7 @@ fn behind_operands(room: usize, operands: Operands<'_>) -> Option<usize>
     }
 }
 
-/// How many bytes of the room are left behind the instruction: none where it does not hold it.
+/// How many bytes of the room are left after the instruction: none where it does not hold it.
 fn behind_insn(room: usize, insn: &Insn<'_>) -> Option<usize>
     ensures { SomeIff result (size (view insn.now) ≤ room) (room - size (view insn.now)) }
 {
@@ -75,7 +75,7 @@ fn is_too_large(list: &[Insn<'_>]) -> bool
     false
 }
 
-/// The code that is these instructions, one behind the other.
+/// The code that is these instructions, one after the other.
 ///
 /// 17 where they have more than 65,535 bytes, each as its operands are, and otherwise 18 where no
 /// bytes spell them: an opcode has operands of another form, `wide` an opcode that it does not

@@ -4,8 +4,8 @@ ghost use Rattle.insn.specs.Offsets.{StartsRise, acts, at_offset, next_offset};
 ghost use Rattle.insn.specs.Views.{views, act_view};
 
 use crate::instruction::Insn;
-use crate::meaning::act;
-use crate::operation::Act;
+use crate::instruction_acts::act;
+use crate::acts::Act;
 
 // Where the instruction of this number begins, if there is one.
 fn start_at(list: &[(u16, Insn<'_>)], number: usize) -> Option<u16>
@@ -17,7 +17,7 @@ fn start_at(list: &[(u16, Insn<'_>)], number: usize) -> Option<u16>
     }
 }
 
-/// The meaning of the instruction at an offset, and where the next one begins, if one begins behind it: `None` where
+/// The meaning of the instruction at an offset, and where the next one begins, if one begins after it: `None` where
 /// none begins at that offset. Takes no memory. The offsets of [`decode_code`](crate::decode_code)'s list rise, so the
 /// list is halved.
 pub fn found_at<'a>(list: &[(u16, Insn<'a>)], at: u16) -> Option<(Act<'a>, Option<u16>)>

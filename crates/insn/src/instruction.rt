@@ -1,4 +1,4 @@
-//! Instructions: an opcode and what stands behind it.
+//! Instructions: an opcode and what stands after it.
 ghost use Rattle.std.specs.Prelude.{◌≡◌};
 ghost use Rattle.insn.specs.Code.{modified};
 ghost use Rattle.insn.specs.Offsets.{StartsRise, has_offset};
@@ -8,8 +8,8 @@ ghost use Rattle.insn.specs.Views.{view, views};
 use crate::opcode::Opcode;
 use std::fmt;
 
-/// The operands behind an opcode (JVMS 6.5), as its [`Form`](crate::Form) says. A switch keeps all
-/// bytes behind its opcode as they stand in the code, so that all operands are small.
+/// The operands after an opcode (JVMS 6.5), as its [`Form`](crate::Form) says. A switch keeps all
+/// bytes after its opcode as they stand in the code, so that all operands are small.
 #[derive(Clone, Copy)]
 pub enum Operands<'a> {
     /// Nothing.
@@ -30,18 +30,18 @@ pub enum Operands<'a> {
     Branch(i16),
     /// Where `goto_w` or `jsr_w` goes, in bytes from the instruction's own start.
     WideBranch(i32),
-    /// The index and the count of `invokeinterface`; the byte behind them is 0.
+    /// The index and the count of `invokeinterface`; the byte after them is 0.
     InvokeInterface { index: u16, count: u8 },
-    /// The index of `invokedynamic`; the two bytes behind it are 0.
+    /// The index of `invokedynamic`; the two bytes after it are 0.
     InvokeDynamic { index: u16 },
     /// The number of the element type of `newarray` (JVMS 6.5, table 6.5.newarray-A).
     NewArray(u8),
     /// The index of `multianewarray`, and how many dimensions are made.
     MultiNewArray { index: u16, dimensions: u8 },
-    /// `tableswitch`: all bytes behind the opcode, whose parts
+    /// `tableswitch`: all bytes after the opcode, whose parts
     /// [`TableSwitch`](crate::TableSwitch) gives.
     TableSwitch(&'a [u8]),
-    /// `lookupswitch`: all bytes behind the opcode, whose parts
+    /// `lookupswitch`: all bytes after the opcode, whose parts
     /// [`LookupSwitch`](crate::LookupSwitch) gives.
     LookupSwitch(&'a [u8]),
     /// `wide` before a load, a store or `ret`: that opcode, and the number of a local variable.
@@ -66,7 +66,7 @@ impl fmt::Debug for Insn<'_> {
     }
 }
 
-/// The opcode that says what is done: behind `wide` the one that is modified.
+/// The opcode that says what is done: after `wide` the one that is modified.
 pub fn modified(insn: &Insn<'_>) -> Opcode
     ensures { result ≡ modified (view insn.now).opcode (view insn.now).operands }
 {
@@ -91,7 +91,7 @@ pub fn modified(insn: &Insn<'_>) -> Opcode
     }
 }
 
-/// The standard's name of the instruction (JVMS 6.5); behind `wide` that of the opcode which is
+/// The standard's name of the instruction (JVMS 6.5); after `wide` that of the opcode which is
 /// modified. Takes no memory.
 pub fn mnemonic(insn: &Insn<'_>) -> &'static str
     ensures { result.now ≡ mnemonic (modified (view insn.now).opcode (view insn.now).operands) }

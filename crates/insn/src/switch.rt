@@ -22,7 +22,7 @@ pub struct TableSwitch<'a> {
 }
 
 impl<'a> TableSwitch<'a> {
-    /// The parts of all bytes behind the opcode, as an instruction keeps them
+    /// The parts of all bytes after the opcode, as an instruction keeps them
     /// ([`Operands::TableSwitch`](crate::Operands)). Their number modulo 4 is that of the padding,
     /// and a number whose bytes are missing counts as -1.
     pub fn new(bytes: &'a [u8]) -> Self
@@ -60,7 +60,7 @@ pub struct LookupSwitch<'a> {
 }
 
 impl<'a> LookupSwitch<'a> {
-    /// The parts of all bytes behind the opcode, as an instruction keeps them
+    /// The parts of all bytes after the opcode, as an instruction keeps them
     /// ([`Operands::LookupSwitch`](crate::Operands)). Their number modulo 4 is that of the padding,
     /// and a number whose bytes are missing counts as -1.
     pub fn new(bytes: &'a [u8]) -> Self
@@ -81,7 +81,7 @@ impl<'a> LookupSwitch<'a> {
     }
 }
 
-/// The number in front of fours of bytes, -1 where there is none, and the fours behind it.
+/// The number in front of fours of bytes, -1 where there is none, and the fours after it.
 fn first_number(fours: &[u8]) -> (i32, &[u8])
     ensures number { result.0 ≡ number_of fours.now }
     ensures others { result.1.now ≡ behind fours.now }
@@ -174,7 +174,7 @@ impl<'a> Iterator for Pairs<'a> {
     }
 }
 
-/// The pair in front of these bytes, and the bytes behind it.
+/// The pair in front of these bytes, and the bytes after it.
 fn first_pair(bytes: &[u8]) -> Option<((i32, i32), &[u8])>
     ensures { MatchOption result (pairs bytes.now ≡ []) (λ x. pairs bytes.now ≡ x.0 ∷ pairs x.1.now) }
 {

@@ -7,12 +7,14 @@ ghost use Rattle.insn.specs.Unconstrained.{unconstrained_length};
 ghost use Rattle.insn.specs.private.Table.{table_row, table_opcode, table_act, act_alone, IsRowOf, numeric_table_row, numeric_table_operator, stack_table_row, stack_table_operator};
 ghost use Rattle.insn.specs.Views.{stack_form_view};
 
+use crate::acts::{Act, Meaning};
+use crate::kinds::Kind;
 use crate::opcode::Opcode;
-use crate::operation::{Act, Kind, Meaning, NumericOperator};
+use crate::operators::NumericOperator;
 use crate::stack::{StackForm, StackOperator, StackPlace};
 use names::Primitive;
 
-/// The form of the operands behind an opcode (JVMS 6.5, "Format"). A number is signed (`s`) or unsigned (`u`),
+/// The form of the operands after an opcode (JVMS 6.5, "Format"). A number is signed (`s`) or unsigned (`u`),
 /// of so many bytes, the highest first.
 #[derive(Clone, Copy, Debug, PartialEq, Eq)]
 pub enum Form {
@@ -50,11 +52,11 @@ pub enum Form {
     Wide,
 }
 
-/// A row of the table: an opcode, the standard's name for it, what stands behind it, what it means, and its act where
-/// nothing stands behind it.
+/// A row of the table: an opcode, the standard's name for it, what stands after it, what it means, and its act where
+/// nothing stands after it.
 pub(crate) type Row = (Opcode, &'static str, Form, Meaning, Option<Act<'static>>);
 
-/// The act of an opcode of this form and meaning, where nothing stands behind it.
+/// The act of an opcode of this form and meaning, where nothing stands after it.
 macro_rules! act_alone {
     (Nothing LoadFrom($kind:expr, $local:expr)) => {
         Some(Act::Load { kind: $kind, local: $local })
@@ -509,7 +511,7 @@ impl NumericOperator {
 /// A row of the operators that move what is on the stack: the operator, and its forms.
 type StackRow = (StackOperator, &'static [StackForm]);
 
-/// The rows of a table that is written as `OPERATOR [TAKEN, TAKEN] -> [LEFT, LEFT];`, a form behind
+/// The rows of a table that is written as `OPERATOR [TAKEN, TAKEN] -> [LEFT, LEFT];`, a form after
 /// the other with `|` between them.
 macro_rules! stack_rows {
     ($($operator:ident $([$($taken:ident),*] -> [$($left:literal),*])|+;)*) => {

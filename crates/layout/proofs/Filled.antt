@@ -2,7 +2,7 @@
 use Rattle.std.proofs.Common.{◌≡◌, ℕ, ◌+◌, ◌≤◌, List, ◌++◌, length, take, drop, sym, ap, ◌∙◌, arith, append_assoc}
 use Rattle.std.proofs.lemmas.List.{take-append-drop, take_at, length-append, length-take-le}
 
--- behind its front, other bytes were written over
+-- after its front, other bytes were written over
 pub filled : (xs ys post : List ℕ) (at n : ℕ) → at ≤ length xs → n ≤ length ys → take (at + n) (take at xs ++ (ys ++ post)) ≡ take at xs ++ take n ys
 filled xs ys post at n a b =
     let front = take at xs in

@@ -67,7 +67,7 @@ spells_inside {V = V} n body (part k after) make v s =
     (inside n (drop k body) (after (take k body)) (λ v. done (make v)))) [] (make v)) (sym long) one
 spells_inside n body (refuse fault) make v s = absurd s
 
--- bytes behind a length of four bytes
+-- bytes after a length of four bytes
 pub made_held : {V : Type 0} (make : List ℕ → V) → NumberLaw 4
     → Made (andthen (number 4) (λ n. part n (λ bytes. done (make bytes)))) make (λ bytes. lengthened (plain bytes ∷ []))
 made_held {V = V} make law4 = record { has = has; only = only }

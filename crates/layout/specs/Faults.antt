@@ -13,7 +13,7 @@ abbrev pub UnlessMemory : ReadFault → Type 0 → Type 0
 UnlessMemory OutOfMemory p = Unit {0}
 UnlessMemory e p = p
 
--- The call read by the format: the value and the place behind it, or the fault, and the cursor as before.
+-- The call read by the format: the value and the place after it, or the fault, and the cursor as before.
 abbrev pub Reads : {X V : Type 0} → Format V → (X → V) → Place → Place → Result X ReadFault → Type 0
 Reads f view old new (Ok x) = reads f old.at old.rest ≡ Ok (view x, new)
 Reads f view old new (Err e) = (reads f old.at old.rest ≡ Err e) × (new ≡ old)

@@ -1,6 +1,6 @@
 -- Formats: which bytes spell which values, as the structures of JVMS 4 are laid out. A format is a chain of parts, each
--- of so many bytes; what comes behind a part may hang on its bytes. It is read in three ways: `Spells` (the bytes are
--- the value's parts one behind the other), `FirstFault` (the first part in order that is not whole or breaks a rule)
+-- of so many bytes; what comes after a part may hang on its bytes. It is read in three ways: `Spells` (the bytes are
+-- the value's parts one after the other), `FirstFault` (the first part in order that is not whole or breaks a rule)
 -- and `reads` (what a program answers). The laws in `FormatLaws` say that the third is the other two.
 use Rattle.std.specs.Prelude.{◌≡◌, ℕ, ◌+◌, ◌<◌, List, [], ◌++◌, length, take, drop, nat_lt, if◌then◌else◌, Result, Ok, Err, ◌⊎◌, zero, suc, ◌∷◌, ◌-◌, nat_eq}
 use Rattle.byteorder.specs.Endian.{big_number}
@@ -16,7 +16,7 @@ pub data Format (V : Type 0) : Type 0 where
   -- a rule is broken; the fault is reported where the next part would begin
   refuse : (ℕ → ReadFault) → Format V
 
--- The bytes spell the value: they are its parts one behind the other.
+-- The bytes spell the value: they are its parts one after the other.
 abbrev pub Spells : {V : Type 0} → Format V → List ℕ → V → Type 0
 Spells (done w) bytes v = (bytes ≡ []) × (w ≡ v)
 Spells (part n next) bytes v = (first : List ℕ) × (others : List ℕ) × (length first ≡ n) × (bytes ≡ first ++ others)
@@ -32,14 +32,14 @@ FirstFault (part n next) at bytes e =
     × FirstFault (next first) (at + n) others e)
 FirstFault (refuse fault) at bytes e = e ≡ fault at
 
--- The answer of reading by the format, from a place on: the value and the place behind it, or the fault.
+-- The answer of reading by the format, from a place on: the value and the place after it, or the fault.
 abbrev pub reads : {V : Type 0} → Format V → ℕ → List ℕ → Result (V × Place) ReadFault
 reads (done w) at bytes = Ok (w, record { at = at; rest = bytes })
 reads (part n next) at bytes =
     if nat_lt (length bytes) n then Err (EndsEarly at) else reads (next (take n bytes)) (at + n) (drop n bytes)
 reads (refuse fault) at bytes = Err (fault at)
 
--- one format behind another
+-- one format after another
 abbrev pub andthen : {V W : Type 0} → Format V → (V → Format W) → Format W
 andthen (done v) next = next v
 andthen (part n after) next = part n (λ first. andthen (after first) next)
@@ -49,12 +49,12 @@ andthen (refuse fault) next = refuse fault
 abbrev pub number : ℕ → Format ℕ
 number n = part n (λ bytes. done (big_number n bytes))
 
--- what is read behind what was read
+-- what is read after what was read
 abbrev pub behind_it : {V W : Type 0} → Result (V × Place) ReadFault → (V → Format W) → Result (W × Place) ReadFault
 behind_it (Ok x) next = reads (next x.0) x.1.at x.1.rest
 behind_it (Err e) next = Err e
 
--- so many of the same, one behind the other
+-- so many of the same, one after the other
 unfoldable pub times : {V : Type 0} → ℕ → Format V → Format (List V)
 times zero f = done []
 times (suc n) f = andthen f (λ v. andthen (times n f) (λ others. done (v ∷ others)))

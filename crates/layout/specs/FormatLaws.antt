@@ -114,7 +114,7 @@ fault_reads (part n next) at bytes e (inr h) =
     ∙ rw (long, take_at a b n len, drop_at a b n len) (fault_reads (next a) (at + n) b e h.4)
 fault_reads (refuse fault) at bytes e h = ap Err (sym h)
 
--- reading one format behind another
+-- reading one format after another
 pub reads_andthen : {V W : Type 0} (f : Format V) (next : V → Format W) (at : ℕ) (bytes : List ℕ)
     → reads (andthen f next) at bytes ≡ behind_it (reads f at bytes) next
 reads_andthen (done v) next at bytes = refl
@@ -344,7 +344,7 @@ number_spelled n law v lt = (
   (refl, ap (big_number n) (sym (append-nil (big_bytes n v))) ∙ big_number-reads_back n v [] lt),
 )
 
--- ---- spellings one behind the other
+-- ---- spellings one after the other
 
 pub andthen_spelled : {V W : Type 0} (f : Format V) (next : V → Format W) (a b : List ℕ) (v : V) (w : W) → Spells f a v
     → Spells (next v) b w → Spells (andthen f next) (a ++ b) w
@@ -459,7 +459,7 @@ inside_err {A = A} {V = V} n body f make q start p e len head at refused =
     by_case (Ok x) h = by_end (eqb (length x.1.rest) 0) x h
     by_case (Err d) h = ap bad (same_bad {V = A} (confined q d) e h)
 
--- one step of reading parts one behind the other
+-- one step of reading parts one after the other
 pub then_ok : {V W : Type 0} (f : Format V) (next : V → Format W) (at : ℕ) (bytes : List ℕ) (v : V) (p : Place)
     (r : Result (W × Place) ReadFault)
     → reads f at bytes ≡ Ok (v, p) → reads (next v) p.at p.rest ≡ r → reads (andthen f next) at bytes ≡ r

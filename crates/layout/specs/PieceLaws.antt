@@ -17,7 +17,7 @@ use Rattle.layout.specs.Faults.{UnlessWriteMemory}
 use Rattle.layout.specs.declared.limits.TheConstants.{MAX_CLASS_BYTES}
 use Rattle.layout.specs.Pieces.{has_over, has_unspelled, too_large, cannot, blank, Delivers, Goes, Puts, Piece, plain, over, unspelled, sized, field, text, ArePlain, lengthened, Written, writes, then_writes}
 
--- ---- pieces one behind the other
+-- ---- pieces one after the other
 
 pub text_append : (a b : List Piece) → text (a ++ b) ≡ text a ++ text b
 text_append [] b = refl
@@ -294,7 +294,7 @@ pub record Ended (mark : ℕ) (b c : Written) : Type 0 where
 abbrev good : Written → Result Written WriteFault
 good w = Ok w
 
--- the same pieces behind other bytes
+-- the same pieces after other bytes
 pub writes_behind : (p : List Piece) (x y : List ℕ) (room : ℕ) (wrong : Bool) (b : Written)
     → writes p (record { bytes = x; room = room; wrong = wrong }) ≡ Ok b
     → (b.bytes ≡ x ++ text p) × (writes p (record { bytes = y; room = room; wrong = wrong })
@@ -362,7 +362,7 @@ refused_behind (plain bytes ∷ p) x y room more wrong other e le h =
 refused_behind (over ∷ p) x y room more wrong other e le h = (cc, refl)
 refused_behind (unspelled ∷ p) x y room more wrong other e le h = refused_behind p x y room more true true e le h
 
--- what filling in four bytes behind the first `mark` makes
+-- what filling in four bytes after the first `mark` makes
 pub filled : (items a back f rest w : List ℕ) (mark n : ℕ) → a ≡ take mark items → back ≡ drop mark items
     → f ≡ take 4 back → rest ≡ drop 4 back → w ≡ big_bytes 4 n ++ drop 4 f → n ≡ length back - 4
     → mark + 4 ≤ length items
@@ -700,7 +700,7 @@ made_last {V = V} {f = f} mk {first = first} {p = p} m = record {
       (x.0, ap mk x.1 ∙ i.5.1, i.3 ∙ ap (λ (t : List ℕ). i.0 ++ t) i.5.0 ∙ append-nil i.0 ∙ x.2, x.3);
 }
 
--- ---- a list, as a program writes it, one behind the other
+-- ---- a list, as a program writes it, one after the other
 
 abbrev pub others : {X : Type 0} → List X → List X
 others all = take (length all - 1) (drop 1 all)

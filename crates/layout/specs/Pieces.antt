@@ -1,4 +1,4 @@
--- A value as it is written: a list of pieces, one behind the other. The pieces say both what the bytes are (`text`) and
+-- A value as it is written: a list of pieces, one after the other. The pieces say both what the bytes are (`text`) and
 -- why there are none (`cannot`): a count or a length that passes its field, or more bytes than a class file may have
 -- (17), and otherwise something that no bytes spell (18).
 use Rattle.std.specs.Prelude.{◌≡◌, ℕ, ◌-◌, ◌^◌, Bool, true, false, ◌||◌, Option, Some, None, List, [], ◌∷◌, ◌++◌, length, nat_lt, if◌then◌else◌, Result, Ok, Err}
@@ -57,7 +57,7 @@ writes (plain bytes ∷ pieces) w =
 writes (over ∷ pieces) w = Err DoesNotFit
 writes (unspelled ∷ pieces) w = writes pieces (record { bytes = w.bytes; room = w.room; wrong = true })
 
--- what is written behind what was written
+-- what is written after what was written
 abbrev pub then_writes : Result Written WriteFault → List Piece → Result Written WriteFault
 then_writes (Ok w) pieces = writes pieces w
 then_writes (Err e) pieces = Err e

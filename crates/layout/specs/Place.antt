@@ -5,7 +5,7 @@ pub record Place : Type 0 where
   pub at : ℕ
   pub rest : List ℕ
 
--- these bytes were taken: they stood in front, and the cursor is behind them
+-- these bytes were taken: they stood in front, and the cursor is after them
 pub record Took (bytes : List ℕ) (old new : Place) : Type 0 where
   pub parts : old.rest ≡ bytes ++ new.rest
   pub at : new.at ≡ old.at + length bytes

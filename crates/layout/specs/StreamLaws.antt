@@ -1,5 +1,5 @@
 -- Words of the code's own steps: nothing that a reader must believe rests on them. One step of reading from a stream
--- behind another, then what follows from `Leads` for every format.
+-- after another, then what follows from `Leads` for every format.
 use Rattle.std.proofs.Common.{◌≡◌, ℕ, ◌+◌, ◌≤◌, ◌<◌, List, [], ◌++◌, length, Result, Ok, Err, Option, refl, sym, ap, subst, ◌∙◌, append_assoc, arith, inl, inr, ◌⊎◌}
 use Rattle.std.proofs.Common.{Bool, true, false, ltb, take, drop}
 use Rattle.std.proofs.lemmas.Bool.{ltb-true, ltb-false}
@@ -16,7 +16,7 @@ use Rattle.layout.specs.declared.limits.TheConstants.{MAX_CLASS_BYTES}
 same_value : {V : Type 0} (v w : V) → whole v ≡ whole w → v ≡ w
 same_value v w e = cc
 
--- ---- one format behind another
+-- ---- one format after another
 
 leads_behind : {V W : Type 0} (f : Format V) (next : V → Format W) (at : ℕ) (a b : List ℕ) (v : V) (p : Progress W)
     → Leads f at a (whole v) → Leads (next v) (at + length a) b p → Leads (andthen f next) at (a ++ b) p
@@ -59,7 +59,7 @@ refused_on (part n after) next at a e (inr (inr (le, first, others, len, is, s))
     inr (inr (le, first, others, len, is, refused_on (after first) next (at + n) others e s))
 refused_on (refuse fault) next at a e s = (s.0, let h = s.1 in cc)
 
--- ---- one step behind another
+-- ---- one step after another
 
 pub then_led : {V W : Type 0} (f : Format V) (next : V → Format W) (v : V) (p : Progress W) (a b c : List ℕ)
     (q r s : Option (List ℕ))
@@ -194,7 +194,7 @@ spells_leads (part n next) at given v (first, others, len, is, s) le =
     ))
 spells_leads (refuse fault) at given v s le = absurd s
 
--- the same lists, in front and behind
+-- the same lists, in front and after
 same_parts : (a b x y : List ℕ) (n : ℕ) → length a ≡ n → length b ≡ n → a ++ x ≡ b ++ y → (a ≡ b) × (x ≡ y)
 same_parts a b x y n la lb e = (
   sym (take_at a x n la) ∙ ap (take n) e ∙ take_at b y n lb,

@@ -1,5 +1,5 @@
 -- Formats that are read from a stream, part by part, where it is not known how many bytes are to come. No part that
--- would pass the most bytes of a class file is read, and no byte behind the part that decides.
+-- would pass the most bytes of a class file is read, and no byte after the part that decides.
 use Rattle.std.specs.Prelude.{◌≡◌, ℕ, ◌+◌, ◌≤◌, ◌<◌, List, [], ◌++◌, length, Result, Ok, Err, Option, ◌⊎◌}
 use Rattle.std.specs.Io.KnownBytes.{Consumes, IsAtEnd}
 use Rattle.layout.specs.Format.{Format, done, part, refuse}
@@ -17,8 +17,8 @@ pub data Progress (V : Type 0) : Type 0 where
   -- to this fault
   refused : ReadFault → Progress V
 
--- The bytes that stand at a place lead so far by the format: they are its parts one behind the other, up to the end, up
--- to a part that is not whole, or up to a fault. They are all that was needed for that: nothing stands behind the part
+-- The bytes that stand at a place lead so far by the format: they are its parts one after the other, up to the end, up
+-- to a part that is not whole, or up to a fault. They are all that was needed for that: nothing stands after the part
 -- that decides. A part that would pass the limit is a fault, whether or not it is there.
 abbrev pub Leads : {V : Type 0} → Format V → ℕ → List ℕ → Progress V → Type 0
 Leads (done w) at given p = (given ≡ []) × (p ≡ whole w)
@@ -51,7 +51,7 @@ StreamHas f stream e =
 -- give, where
 -- they are known
 
--- The reader gave bytes that lead so far, and they are held behind the others.
+-- The reader gave bytes that lead so far, and they are held after the others.
 pub record Led {V : Type 0} (f : Format V) (p : Progress V) (old new : List ℕ)
     (before after : Option (List ℕ)) : Type 0 where
   pub given : List ℕ
@@ -64,7 +64,7 @@ abbrev pub count_of : Result ℕ ℕ → ℕ
 count_of (Ok n) = n
 count_of (Err n) = n
 
--- So many bytes were asked for: these were given, and are held behind the others.
+-- So many bytes were asked for: these were given, and are held after the others.
 pub record Given (given old new : List ℕ) (before after : Option (List ℕ)) : Type 0 where
   pub held : new ≡ old ++ given
   pub consumed : Consumes before after given

@@ -8,7 +8,7 @@ use Rattle.layout.specs.declared.fault.ReadFault.{ReadFault}
 use Rattle.layout.specs.Format.{Format, Spells, FirstFault, reads}
 use Rattle.layout.specs.FormatLaws.{reads_spells, spelled_reads, reads_fault, fault_reads, same_good}
 
--- a spelling stands in front of the bytes, so many bytes long, and more behind it
+-- a spelling stands in front of the bytes, so many bytes long, and more after it
 pub record HasMore {V : Type 0} (f : Format V) (bytes : List ℕ) (at : ℕ) : Type 0 where
   pub front : List ℕ
   pub others : List ℕ
@@ -18,7 +18,7 @@ pub record HasMore {V : Type 0} (f : Format V) (bytes : List ℕ) (at : ℕ) : T
   pub place : length front ≡ at
   pub some : 0 < length others
 
--- the first part that is not whole or breaks its rule, or the bytes behind a spelling
+-- the first part that is not whole or breaks its rule, or the bytes after a spelling
 abbrev pub WholeFault : {V : Type 0} → Format V → (ℕ → ReadFault) → List ℕ → ReadFault → Type 0
 WholeFault f behind bytes e = FirstFault f 0 bytes e ⊎ ((at : ℕ) × (e ≡ behind at) × HasMore f bytes at)
 
@@ -80,7 +80,7 @@ whole_or_fault {V = V} f behind bytes = by_answer (reads f 0 bytes) refl
         by_rest true t = inr (behind x.1.at, inr (x.1.at, refl, has_more f bytes x.0 x.1 h (ltb-true _ _ t)))
         by_rest false t = inl (x.0, is_whole f bytes x.0 x.1 h (let n = ltb-false _ _ t in omega (arith, n)))
 
--- what reading says of bytes with more behind a spelling
+-- what reading says of bytes with more after a spelling
 read_more : {V : Type 0} (f : Format V) (bytes : List ℕ) (at : ℕ) (m : HasMore f bytes at)
     → reads f 0 bytes ≡ Ok (m.value, record { at = 0 + length m.front; rest = m.others })
 read_more f bytes at m = ap (reads f 0) m.parts ∙ spelled_reads f 0 m.front m.others m.value m.spelled

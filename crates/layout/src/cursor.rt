@@ -41,7 +41,7 @@ impl<'a> Cursor<'a> {
     /// How many bytes came before: the place of the next byte.
     pub fn at(&self) -> usize
         ensures place { result ≡ self.now.at }
-        // an offset behind any of the bytes that are left fits
+        // an offset after any of the bytes that are left fits
         ensures within { self.now.at + length self.now.rest < 2 ^ 64 }
     {
         self.at

@@ -33,13 +33,13 @@ pub enum ReadFault {
     /// 4.7); where a stack map's body is read alone, bytes are left over from `at` on (4.7.4).
     #[error("refused 12 at {at}")]
     AttributeLength { at: usize },
-    /// 13: bytes stand behind the end, from `at` on.
+    /// 13: bytes stand after the end, from `at` on.
     #[error("refused 13 at {at}")]
     BytesAfter { at: usize },
     /// 14: the part that begins at `at` would pass the most bytes that a class file may have.
     #[error("refused 14 at {at}")]
     TooLong { at: usize },
-    /// 15: the reader failed behind the first `at` bytes.
+    /// 15: the reader failed after the first `at` bytes.
     #[error("refused 15 at {at}")]
     ReadFailed { at: usize },
     /// 16: the count of the constant pool, which stands at `at`, is 0 (JVMS 4.1).

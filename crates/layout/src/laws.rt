@@ -46,7 +46,7 @@ pub fn body_is_whole<A, V>()
 {}
 
 /// Bytes that are to be one spelling, all of them, are one or have a first fault: never both, and one fault alone.
-/// Bytes that are left over are a fault as `behind` tells it.
+/// Bytes that are left over are a fault, as `behind` tells.
 pub fn whole_is_spelling<V>()
     ensures either { (f : Format V) (behind : ℕ → ReadFault) (bytes : List ℕ)
         → ((v : V) × Spells f bytes v) ⊎ ((e : ReadFault) × WholeFault f behind bytes e) }

@@ -8,7 +8,7 @@ use crate::fault::ReadFault;
 use crate::part::Part;
 use std::alloc::Global;
 
-/// Takes `count` parts, one behind the other, or returns the first fault, or 1. After an error the
+/// Takes `count` parts, one after the other, or returns the first fault, or 1. After an error the
 /// cursor stands somewhere in between.
 ///
 /// Room is asked for as many as there are bytes left, and no more: a count is not believed before bytes are there.

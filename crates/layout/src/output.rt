@@ -116,7 +116,7 @@ impl Output {
         Ok(mark)
     }
 
-    /// Fills in, at the mark, the length of what was written behind its four bytes, or returns 17
+    /// Fills in, at the mark, the length of what was written after its four bytes, or returns 17
     /// where the length has no four bytes.
     pub fn end(&mut self, mark: usize) -> Result<(), WriteFault>
         requires { mark + 4 ≤ length self.now.bytes }

@@ -66,7 +66,7 @@ impl Reading {
         self.bytes
     }
 
-    /// Reads `n` bytes behind those that are held, and returns how many there were: fewer only where the reader ended.
+    /// Reads `n` bytes after those that are held, and returns how many there were: fewer only where the reader ended.
     ///
     /// 1 where there is no memory for them, before anything is read; 15 where the reader fails, however it does: what
     /// it gave before stays, and it is not asked again.

@@ -133,7 +133,7 @@ fn numbers(alloc: Global, count: u16) -> Result<Vec<[u8; 2]>, AllocError> {
     (0..count).map(|number| number.to_be_bytes()).collect(alloc)
 }
 
-/// `java/lang/Object`, and classes of these names: each below the one behind it, and the last below Object; or all
+/// `java/lang/Object`, and classes of these names: each below the one after it, and the last below Object; or all
 /// below Object.
 fn many<'a>(
     alloc: Global,

@@ -63,7 +63,7 @@ fn is_quoted(alloc: Global, text: &[u8], expected: &[u8]) -> bool {
     }
 }
 
-/// A quotation mark and a delete behind more bytes than lanes tell at once.
+/// A quotation mark and a delete after more bytes than lanes tell at once.
 const LONG: &[u8] = b"java/util/HashMap\"Node\x7f";
 
 #[test]

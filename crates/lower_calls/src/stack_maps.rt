@@ -135,7 +135,7 @@ fn entry_at_fault(rt: HostRuntime) {
     assert!(rt; faulty_entry(alloc, &[0, 1, 7, 0, 0]) == Ok(None));
 }
 
-/// Why the entry is not written behind a byte, which stays.
+/// Why the entry is not written after a byte, which stays.
 fn put_fault(alloc: Global, entry: &MapEntry) -> Option<WriteFault> {
     let mut out = Vec::new(alloc);
     match out.push(7) {

@@ -72,7 +72,7 @@ stay_initialized h a x p here b y e = by (nat_eq a b) refl
         rw q (ap (λ z. Some (object z ready)) t)
     by false q = rw q e
 
--- ---- the state behind a step, as its effect is seen
+-- ---- the state after a step, as its effect is seen
 
 record Follows (w : World) (x : Outlook) (s : State) (answer : Option Value) (to : ℕ) (u : State) : Type 0 where
   may : MayBy w x s

@@ -5,7 +5,7 @@ use Rattle.names.specs.declared.base.Primitive.TheVariants.{Boolean, Byte, Char,
 use Rattle.names.specs.Descriptors.{FieldDescriptor, primitive, class, array}
 use Rattle.names.specs.ReferenceTypes.{ReferenceType, class_type, array_type, descriptor_of}
 use Rattle.hierarchy.specs.World.{World}
-use Rattle.insn.specs.declared.operation.Kind.{Kind}
+use Rattle.insn.specs.declared.kinds.Kind.{Kind}
 use Rattle.insn.specs.Kinds.{computed_as}
 use Rattle.machine.specs.Values.{Value, number, null, reference}
 use Rattle.machine.specs.Heap.{Heap, FitsReference, FitsField}

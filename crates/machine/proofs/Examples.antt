@@ -9,8 +9,8 @@ use Rattle.pool.specs.Lookups.{entry_at, text_at, class_name_at, named, name_and
 use Rattle.hierarchy.specs.World.{World, same}
 use Rattle.hierarchy.specs.Class.{ClassFact, world_of}
 use Rattle.classfile.specs.Methods.{Method, ExceptionEntry}
-use Rattle.insn.specs.declared.operation.Kind.TheVariants.{Int}
-use Rattle.insn.specs.declared.operation.NumericOperator.TheVariants.{Iadd}
+use Rattle.insn.specs.declared.kinds.Kind.TheVariants.{Int}
+use Rattle.insn.specs.declared.operators.NumericOperator.TheVariants.{Iadd}
 use Rattle.insn.specs.declared.stack.StackOperator.TheVariants.{Dup}
 use Rattle.insn.specs.Meanings as acts
 use Rattle.insn.specs.Meanings.{Act}

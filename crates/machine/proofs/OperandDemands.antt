@@ -4,7 +4,7 @@ use Rattle.std.proofs.lemmas.List.{append_assoc, map-append}
 use Rattle.names.specs.declared.descriptor.FieldType.{FieldType}
 use Rattle.names.specs.Descriptors.{FieldDescriptor}
 use Rattle.names.specs.Types.{type_of}
-use Rattle.insn.specs.declared.operation.Kind.TheVariants as kinds
+use Rattle.insn.specs.declared.kinds.Kind.TheVariants as kinds
 use Rattle.machine.specs.declared.effect.Demand.{Demand as RawDemand}
 use Rattle.machine.specs.Effects.{Demand, of_kind, demand_of, arguments_on, sizes}
 use Rattle.machine.specs.private.EffectViews.{demand_view, demands_view}
@@ -27,7 +27,7 @@ module _ (ts : List FieldType) (some : 1 ≤ length ts) (d : FieldType) where
   whole : arguments_on (map type_of ts) [] ≡ arguments_on (map type_of (take (length ts - 1) (drop 1 ts))) (demand_of (type_of (get_or ts 0 d)) ∷ [])
   whole = ap (λ z. arguments_on (map type_of z) []) (first_and_others ts d some)
 
-  -- the demand of the first argument, pushed behind those of the others
+  -- the demand of the first argument, pushed after those of the others
   pub pushed_first : (old mid new : List RawDemand) (n : RawDemand)
       → demands_view mid ≡ demands_view old ++ arguments_on (map type_of (take (length ts - 1) (drop 1 ts))) []
       → demand_view n ≡ demand_of (type_of (get_or ts 0 d)) → new ≡ mid ++ n ∷ []

@@ -8,7 +8,7 @@ use Rattle.pool.specs.Entries as entries
 use Rattle.pool.specs.Entries.{Entry}
 use Rattle.pool.specs.ConstantMeanings.{constant_at, class_at, FieldConstant, field_at, MethodConstant, method_at, dynamic_type_at, CallSite, call_site_at}
 use Rattle.classfile.specs.Methods.{Method}
-use Rattle.insn.specs.declared.operation.Kind.{Kind}
+use Rattle.insn.specs.declared.kinds.Kind.{Kind}
 use Rattle.insn.specs.Meanings as acts
 use Rattle.insn.specs.Meanings.{Act}
 use Rattle.machine.specs.Heap.{ready, made, object}

@@ -9,8 +9,8 @@ use Rattle.pool.specs.Entries.{Entry}
 use Rattle.pool.specs.ConstantMeanings.{constant_at, class_at, FieldConstant, field_at, MethodConstant, method_at, dynamic_type_at, CallSite, call_site_at}
 use Rattle.classfile.specs.Methods.{Method}
 use Rattle.hierarchy.specs.World.{World}
-use Rattle.insn.specs.declared.operation.Kind.{Kind}
-use Rattle.insn.specs.declared.operation.Kind.TheVariants as kinds
+use Rattle.insn.specs.declared.kinds.Kind.{Kind}
+use Rattle.insn.specs.declared.kinds.Kind.TheVariants as kinds
 use Rattle.insn.specs.declared.stack.StackPlace.{StackPlace}
 use Rattle.insn.specs.declared.stack.StackOperator.{StackOperator}
 use Rattle.insn.specs.declared.stack.StackOperator.TheVariants.{Pop, Pop2, Dup, DupX1, DupX2, Dup2, Dup2X1, Dup2X2, Swap}
@@ -404,7 +404,7 @@ told m (acts.Stack op) s answer us k =
     are_moved op k.0 x.0 x.1 s.stack us x.2 k.2 k.3
 told m _ s answer us k = k
 
--- ---- behind each step
+-- ---- after each step
 
 pub stack_bounds : StackBounds
 stack_bounds w m s act here branch answer fresh t h =

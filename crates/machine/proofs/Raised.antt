@@ -68,7 +68,7 @@ module _ (world : World) (m : Method Act) (s : State) (address : ℕ) (fresh : L
     result = c.result ∙ ap (λ h. moved_with s c.by_entry.handler (reference address ∷ []) h) (sym same);
   }
 
-  -- caught behind the new objects
+  -- caught after the new objects
   there_is_here : (r : Result RawOutcome StepFault) → CatchesBy world m (moved_with s s.at s.stack heap) address type heap entry r → CatchesBy world m s address type heap entry r
   there_is_here (Ok (outcomes.Next t)) c = record { by_entry = c.by_entry; which = c.which; covered = c.covered; catches = c.catches; result = c.result }
   there_is_here (Ok outcomes.Ended) c = c

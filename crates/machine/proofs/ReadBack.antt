@@ -144,7 +144,7 @@ slots_append (u ∷ us) vs = by (slots_of u us) (slots_append us vs)
 
 -- ---- the program's local variables, cut at the first one
 
--- what stands behind the first item, as a slice has it
+-- what stands after the first item, as a slice has it
 abbrev pub behind_first : {X : Type 0} → List X → List X
 behind_first xs = take (length xs - 1) (drop 1 xs)
 

@@ -5,7 +5,7 @@ use Rattle.std.proofs.lemmas.Option.{slice_get-get_or}
 use Rattle.names.specs.Descriptors.{FieldDescriptor}
 use Rattle.classfile.specs.Methods.{Method, Receiver, no_receiver, ready_receiver, own_receiver, receiver_of}
 use Rattle.hierarchy.specs.World.{World}
-use Rattle.insn.specs.declared.operation.Kind.TheVariants as kinds
+use Rattle.insn.specs.declared.kinds.Kind.TheVariants as kinds
 use Rattle.insn.specs.Meanings.{Act}
 use Rattle.machine.specs.Values.{Value, number, null, reference, Slot, empty, second, holds, is_wide_value, in_slots, all_slots}
 use Rattle.machine.specs.Heap.{Heap, AllFit}
@@ -54,7 +54,7 @@ taken (v ∷ vs) = by (width v) (taken vs)
     by (inr q) e = omega (arith, ap length (in_narrow v vs q.0), e, q.1)
 
 module _ (more : List Slot) where
-  -- what stands behind a value's local variables
+  -- what stands after a value's local variables
   behind : (u : Value) (vs : List Value) (k : ℕ) → slice_get (in_slots (u ∷ vs) ++ more) (units_of u + k) ≡ slice_get (in_slots vs ++ more) k
   behind u vs k = by (width u)
     where

@@ -168,7 +168,7 @@ module _ {A : Type 0} (w : World) (m : Method A) (s : State) where
       let n : x.others ≡ m.max_locals - length (in_slots values) = omega (arith, many, ap length x.are, length-append (in_slots values) (replicate x.others empty), length-replicate x.others empty) in
       x.are ∙ ap (λ z. in_slots values ++ replicate z empty) n
 
--- ---- the receiver and what stands behind it
+-- ---- the receiver and what stands after it
 
 module _ (w : World) (b : Beginning) (heap : Heap) where
   module _ (e : b.receiver ≡ no_receiver) where

@@ -1,4 +1,4 @@
--- Behind the last of offsets that rise nothing begins.
+-- After the last of offsets that rise nothing begins.
 use Rattle.std.proofs.Common.{◌≡◌, ℕ, zero, suc, ◌+◌, ◌<◌, ◌≤◌, ℤ, pos, negsuc, true, false, List, [], ◌∷◌, length, get_or, None, refl, sym, ap, ◌∙◌, arith, ne_eqb}
 use Rattle.std.specs.Option.{is_some}
 use Rattle.std.specs.Prelude.{int_lt}

@@ -150,7 +150,7 @@ abbrev pub StayReady : Heap → Heap → Type 0
 StayReady before behind = (a : ℕ) (x : ReferenceType) → before a ≡ Some (object x ready)
     → behind a ≡ Some (object x ready)
 
--- the state behind a step
+-- the state after a step
 pub record IsSuccessor (world : World) (m : Method Act) (s : State) (act : Act)
     (branch : Option ℕ) (answer : Option Value) (fresh : List (ℕ × ReferenceType)) (t : State) : Type 0 where
   pub may : MayGoOn world m act (with_new s fresh)
@@ -166,7 +166,7 @@ abbrev pub IsThrowable : World → Heap → ℕ → ReferenceType → Type 0
 IsThrowable world heap address type = (heap address ≡ Some (object type ready))
     × IsBelow world type (class_type throwable_name)
 
--- the state behind a catch: at the handler of an entry that covers the instruction and catches the object, which stands
+-- the state after a catch: at the handler of an entry that covers the instruction and catches the object, which stands
 -- alone on the stack
 pub record IsCatch (world : World) (m : Method Act) (s : State)
     (address : ℕ) (fresh : List (ℕ × ReferenceType)) (entry : ℕ) (t : State) : Type 0 where

@@ -39,7 +39,7 @@ abbrev pub is_throw : Act → Bool
 is_throw acts.Throw = true
 is_throw _ = false
 
--- the next instruction may follow: not behind goto, a switch, a return or athrow
+-- the next instruction may follow: not after goto, a switch, a return or athrow
 abbrev pub is_followed : Act → Bool
 is_followed (acts.Goto offset) = false
 is_followed (acts.Switch default offsets) = false

@@ -6,8 +6,8 @@ use Rattle.names.specs.declared.base.Primitive.TheVariants.{Boolean, Byte, Char,
 use Rattle.names.specs.Descriptors.{FieldDescriptor, primitive, class, array}
 use Rattle.names.specs.ReferenceTypes.{ReferenceType, descriptor_of}
 use Rattle.hierarchy.specs.World.{World}
-use Rattle.insn.specs.declared.operation.Kind.{Kind}
-use Rattle.insn.specs.declared.operation.Kind.TheVariants as kinds
+use Rattle.insn.specs.declared.kinds.Kind.{Kind}
+use Rattle.insn.specs.declared.kinds.Kind.TheVariants as kinds
 use Rattle.machine.specs.Values.{Value, number, null, reference}
 use Rattle.machine.specs.Heap.{ready, object, Heap, IsBelowType}
 

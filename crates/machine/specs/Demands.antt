@@ -4,7 +4,7 @@ use Rattle.std.specs.Prelude.{◌≡◌, ℕ, ℤ, pos, ◌+◌, ◌≤◌, true
 use Rattle.names.specs.ReferenceTypes.{ReferenceType, class_type}
 use Rattle.hierarchy.specs.World.{World}
 use Rattle.classfile.specs.Methods.{Method, ExceptionEntry, covers}
-use Rattle.insn.specs.declared.operation.Kind.TheVariants as kinds
+use Rattle.insn.specs.declared.kinds.Kind.TheVariants as kinds
 use Rattle.insn.specs.declared.stack.StackPlace.{StackPlace}
 use Rattle.insn.specs.Operators.{StackForm}
 use Rattle.insn.specs.OperandStacks.{beneath, rearranged}

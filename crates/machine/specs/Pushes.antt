@@ -1,4 +1,4 @@
--- The operand stack behind an instruction, by its act and the constant that it names (JVMS 2.6.2, 2.11, 6.5): how many
+-- The operand stack after an instruction, by its act and the constant that it names (JVMS 2.6.2, 2.11, 6.5): how many
 -- operands are gone, and what stands on what was beneath them.
 use Rattle.std.specs.Prelude.{◌≡◌, ℕ, ◌+◌, if◌then◌else◌, bytes_eq, List, ◌∷◌, ◌++◌, length, drop, slice_get, Option, Some, None}
 use Rattle.names.specs.Descriptors.{FieldDescriptor}
@@ -9,8 +9,8 @@ use Rattle.pool.specs.Entries.{Entry}
 use Rattle.pool.specs.ConstantMeanings.{constant_at, MethodConstant, method_at, CallSite, call_site_at}
 use Rattle.classfile.specs.Methods.{Method}
 use Rattle.hierarchy.specs.World.{World}
-use Rattle.insn.specs.declared.operation.Kind.{Kind}
-use Rattle.insn.specs.declared.operation.Kind.TheVariants as kinds
+use Rattle.insn.specs.declared.kinds.Kind.{Kind}
+use Rattle.insn.specs.declared.kinds.Kind.TheVariants as kinds
 use Rattle.insn.specs.declared.stack.StackOperator.{StackOperator}
 use Rattle.insn.specs.Operators.{numeric_row}
 use Rattle.insn.specs.ByUnits.{top_units, passed_units, moved_by}
@@ -127,7 +127,7 @@ IsLeft (the_local local) s answer stack = (v : Value) × (slice_get s.locals loc
 IsLeft the_top s answer stack = stack ≡ s.stack
 IsLeft (the_items operator) s answer stack = AreMoved operator s.stack stack
 
--- behind each step
+-- after each step
 abbrev pub StackBounds : Type 0
 StackBounds =
     (world : World) (m : Method Act) (s : State) (act : Act) → at_offset m.code s.at ≡ Some act

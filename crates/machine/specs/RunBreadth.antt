@@ -17,8 +17,8 @@ use Rattle.machine.specs.Runs.{IsInitial, IsRun}
 
 -- ---- values in local variables
 
--- So many local variables: each value is in the one behind those of the values before it, the second half of a long or
--- double in the next, and those behind all values are empty.
+-- So many local variables: each value is in the one after those of the values before it, the second half of a long or
+-- double in the next, and those after all values are empty.
 pub record Hold (max_locals : ℕ) (values : List Value) (locals : List Slot) : Type 0 where
   pub many : length locals ≡ max_locals
   pub first : (i : ℕ) (v : Value) → slice_get values i ≡ Some v
@@ -68,7 +68,7 @@ StartBreadth =
 
 -- ---- runs
 
--- A beginning is a run, and a run with a step behind it, or with an exception that is caught, is one.
+-- A beginning is a run, and a run with a step after it, or with an exception that is caught, is one.
 pub record HasRuns (world : World) (m : Method Act) : Type 0 where
   pub begins : (s : State) → IsInitial world m s → IsRun world m (s ∷ [])
   pub steps : (s t : State) (ss : List State) (branch : Option ℕ) (answer : Option Value)

@@ -1,7 +1,7 @@
 -- Values, local variables and operand stacks of the machine (JVMS 2.6). Of a number it has the kind alone.
 use Rattle.std.specs.Prelude.{ℕ, zero, suc, ◌+◌, ◌-◌, Bool, true, false, if◌then◌else◌, List, [], ◌∷◌, ◌++◌, length, replicate}
 use Rattle.names.specs.Descriptors.{FieldDescriptor, primitive, class, array}
-use Rattle.insn.specs.declared.operation.Kind.{Kind}
+use Rattle.insn.specs.declared.kinds.Kind.{Kind}
 use Rattle.insn.specs.declared.stack.StackPlace.{StackPlace}
 use Rattle.insn.specs.declared.stack.StackPlace.TheVariants.{Narrow, Wide}
 use Rattle.insn.specs.Kinds.{is_wide, kind_units, computed_as}
@@ -42,7 +42,7 @@ is_wide_slot empty = false
 is_wide_slot second = false
 is_wide_slot (holds v) = is_wide_value v
 
--- behind a long or double, or not
+-- after a long or double, or not
 abbrev pub ArePairedBehind : Bool → List Slot → Type 0
 ArePairedBehind false [] = Unit {0}
 ArePairedBehind true [] = ⊥
@@ -69,7 +69,7 @@ abbrev pub empty_first : List Slot → List Slot
 empty_first [] = []
 empty_first (s ∷ ss) = empty ∷ ss
 
--- what comes behind an overwritten half: a first one loses its second one
+-- what comes after an overwritten half: a first one loses its second one
 abbrev pub behind_lost : Bool → List Slot → List Slot
 behind_lost true ss = empty_first ss
 behind_lost false ss = ss

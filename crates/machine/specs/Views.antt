@@ -4,7 +4,7 @@ use Rattle.std.specs.BTreeMap.{BTreeMap, get}
 use Rattle.std.specs.Ordering.{nat_cmp}
 use Rattle.names.specs.Descriptors.{base_of, dimensioned}
 use Rattle.names.specs.ReferenceTypes.{ReferenceType, class_type, array_type}
-use Rattle.insn.specs.declared.operation.Kind.TheVariants as kinds
+use Rattle.insn.specs.declared.kinds.Kind.TheVariants as kinds
 use Rattle.machine.specs.declared.items.Value.{Value as RawValue}
 use Rattle.machine.specs.declared.items.Value.TheVariants as values
 use Rattle.machine.specs.declared.items.Slot.{Slot as RawSlot}

@@ -180,7 +180,7 @@ impl<'a> Beginning<'a> {
         })
     }
 
-    // Whether the method may begin with these arguments behind a receiver, all of the values together, and with these
+    // Whether the method may begin with these arguments after a receiver, all of the values together, and with these
     // objects.
     fn may_take<C: Classes>(
         &self,
@@ -270,7 +270,7 @@ impl<'a> Beginning<'a> {
     }
 }
 
-// Puts a value behind the others, a long or double with its second half.
+// Puts a value after the others, a long or double with its second half.
 fn put_value(value: Value, locals: &mut Vec<Slot>) -> Result<(), AllocError>
     ensures { OnOk result (locals_of locals.new.items ≡ locals_of locals.old.items
         ++ in_slots (value_view value ∷ [])) }

@@ -15,7 +15,7 @@ use pool::Pool;
 pub struct ExceptionEntry<'a> {
     /// The first byte of code that is covered.
     pub from: u16,
-    /// The first byte of code behind those that are covered.
+    /// The first byte of code after those that are covered.
     pub to: u16,
     /// Where the handler begins.
     pub handler: u16,

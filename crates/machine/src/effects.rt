@@ -4,7 +4,7 @@ ghost use Rattle.names.specs.Descriptors.{primitive, class};
 ghost use Rattle.names.specs.ReferenceTypes.{class_type};
 ghost use Rattle.names.specs.StandardNames.{object_name};
 ghost use Rattle.insn.specs.Kinds.{computed_as};
-ghost use Rattle.insn.specs.declared.operation.Kind.TheVariants as kinds;
+ghost use Rattle.insn.specs.declared.kinds.Kind.TheVariants as kinds;
 ghost use Rattle.names.specs.Types.{type_of};
 ghost use Rattle.pool.specs.ConstantMeanings.{constant_at, dynamic_type_at};
 ghost use Rattle.insn.specs.Branching.{branches_view};

@@ -22,8 +22,8 @@ fn are_empty(slots: &[Slot]) -> bool
     slots.iter().all(|slot| is_empty(*slot))
 }
 
-/// Takes so many values out of local variables, and puts them behind the others; says whether they are there, each long
-/// or double with its second half, and all local variables behind them are empty.
+/// Takes so many values out of local variables, and puts them after the others; says whether they are there, each long
+/// or double with its second half, and all local variables after them are empty.
 pub fn take_values(
     count: usize,
     slots: &[Slot],

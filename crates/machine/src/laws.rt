@@ -17,7 +17,7 @@ pub fn step_bounds()
     ensures { StepBounds }
 {}
 
-/// The stack behind a step is the one that the instruction leaves: what is beneath its operands, and on that a number
+/// The stack after a step is the one that the instruction leaves: what is beneath its operands, and on that a number
 /// of its kind, null, the answer, the value of its local variable, the value that was cast, or the items that it moves.
 pub fn stack_bounds()
     ensures { StackBounds }
@@ -32,12 +32,12 @@ pub fn used_is_initialized()
 {}
 
 /// A method begins with every heap, every receiver that it may have, and all arguments of its types; each stands in the
-/// local variable behind those before it, and all others are empty.
+/// local variable after those before it, and all others are empty.
 pub fn start_breadth()
     ensures { StartBreadth }
 {}
 
-/// A beginning is a run; a run with a step behind it, or with an exception that is caught, is one.
+/// A beginning is a run; a run with a step after it, or with an exception that is caught, is one.
 pub fn run_breadth()
     ensures { RunBreadth }
 {}

@@ -26,7 +26,7 @@
 //! - `specs/Runs.antt`: initial states and runs.
 //! - `specs/Walks.antt`: walks by a list of choices.
 //! - `specs/Breadth.antt`, `specs/Pushes.antt`: laws of steps: nothing is left out, nothing else happens, and what
-//!   stands on the stack behind them.
+//!   stands on the stack after them.
 //! - `specs/Uses.antt`: a law of the objects that an instruction uses.
 //! - `specs/RunBreadth.antt`: laws of initial states and runs.
 //! - `specs/ByAct.antt`, `specs/ByType.antt`: the words in which laws speak.

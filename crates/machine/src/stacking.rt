@@ -75,7 +75,7 @@ fn copy_of(alloc: Global, stack: &[Value]) -> Result<Vec<Value>, AllocError>
     Ok(copy)
 }
 
-/// The stack behind a form: what it leaves, on what it did not take.
+/// The stack after a form: what it leaves, on what it did not take.
 pub fn rearranged(alloc: Global, form: StackForm, stack: &[Value]) -> Result<Vec<Value>, AllocError>
     ensures { IfOk result (λ v. stack_of v.items ≡ rearranged (stack_form_view form) (stack_of stack.now)) }
 {

@@ -21,7 +21,7 @@ fn free_before(place: usize, slots: &mut [Slot])
     }
 }
 
-// Where the local variable at this place holds a long or double, the one behind it becomes empty.
+// Where the local variable at this place holds a long or double, the one after it becomes empty.
 fn free_behind(place: usize, slots: &mut [Slot])
     requires { place ≤ 65536 }
     ensures { locals_of slots.new ≡ with_behind place (locals_of slots.old) }

@@ -13,7 +13,7 @@ use Rattle.method_frames.specs.private.Stacks.{stack_at, stacks_of, IsHeight, Ar
 use Rattle.method_frames.specs.declared.stack_rows.Height.{Height}
 use Rattle.method_frames.proofs.Counting.{types_reverse}
 
--- an element of a list with one more behind is one of the list, or that one
+-- an element of a list with one more after is one of the list, or that one
 pub get_end : {A : Type 0} (xs : List A) (x : A) (i : ℕ) (y : A) → slice_get (xs ++ x ∷ []) i ≡ Some y → (slice_get xs i ≡ Some y) ⊎ (x ≡ y)
 get_end [] x zero y e = inr (same_Some x y e)
 get_end [] x (suc i) y e = inl e

@@ -1,4 +1,4 @@
--- Local variables that are given one type more behind those in use, or one less.
+-- Local variables that are given one type more after those in use, or one less.
 use Rattle.std.proofs.Common.{◌≡◌, ◌∙◌, ℕ, zero, suc, ◌+◌, ◌-◌, ◌<◌, ◌≤◌, Bool, true, false, cond, List, [], ◌∷◌, ◌++◌, length, take, drop, get_or, set, replicate, reverse, Option, Some, None, refl, sym, ap, subst, arith, append_assoc}
 use Rattle.std.specs.Prelude.{MatchOption}
 use Rattle.std.proofs.lemmas.List.{length-append, length-replicate, length-set, map-append, map-set, reverse-reverse, take-append-drop, take-append-le, take_more}
@@ -140,7 +140,7 @@ rewritten_local old now new place n e a = subst (AreRewritten old) (sym e) (reco
   size = length-set now.running.locals place n ∙ a.size;
 })
 
--- ---- one of many that are put behind the others
+-- ---- one of many that are put after the others
 
 units_split : (s : Numbering) (xs ys : List ℕ) → units_of (types_by s (xs ++ ys)) ≡ units_of (types_by s xs) + units_of (types_by s ys)
 units_split s xs ys = ap units_of (map-append (type_by s) xs ys) ∙ units_append (types_by s xs) (types_by s ys)

@@ -49,7 +49,7 @@ chopped_so s old new count left e cut =
     taken (suc k) [] = refl
     taken (suc k) (n ∷ ns) = ap (λ ts. type_by s n ∷ ts) (taken k ns)
 
--- ---- the rest of locals, behind those that stay
+-- ---- the rest of locals, after those that stay
 
 rest_of : (ns : List ℕ) (k : ℕ) → take (length ns - k) (drop k ns) ≡ drop k ns
 rest_of ns k = take_rest ns k

@@ -31,7 +31,7 @@ own_most ns wides own a =
     let s = none_numbered in
     omega (arith, a.owned s, own_least (types_by s ns), length-map ns (type_by s))
 
--- ---- one more behind the others, and one less
+-- ---- one more after the others, and one less
 
 module _ (ns : List ℕ) (n wides own k : ℕ) (b : Bool) (wide : (s : Numbering) → width_of (type_by s n) ≡ 1 + k) (is : (s : Numbering) → b ≡ is_uninit_this (type_by s n)) where
   own_more : (s : Numbering) → own_among (types_by s (ns ++ n ∷ [])) ≡ own_among (types_by s ns) + one_if b

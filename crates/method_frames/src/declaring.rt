@@ -69,7 +69,7 @@ fn units_given(infos: &[TypeInfo]) -> usize
     units
 }
 
-/// How many units the locals behind an entry take. Those that it chops are gone already.
+/// How many units the locals after an entry take. Those that it chops are gone already.
 fn units_after(entry: &MapEntry, units: usize) -> usize
     requires { units ≤ 65535 }
     ensures { (pool : List Entry) (ts : List VerificationType) → units_of ts ≡ units
@@ -95,7 +95,7 @@ fn stack_units(entry: &MapEntry) -> usize
     }
 }
 
-/// Puts a local behind the others, in the running frame too.
+/// Puts a local after the others, in the running frame too.
 fn add<C: Classes>(
     number: u32,
     locals: &mut MapLocals,
@@ -148,7 +148,7 @@ fn numbers_given(
     Ok(())
 }
 
-/// Puts locals behind the others, in the running frame too.
+/// Puts locals after the others, in the running frame too.
 fn append_all<C: Classes>(
     numbers: &[u32],
     locals: &mut MapLocals,
@@ -293,7 +293,7 @@ fn write_chop<C: Classes>(
     }
 }
 
-/// Declares the frame of an entry at an offset in bytes, behind locals which become those of the entry; or tells its
+/// Declares the frame of an entry at an offset in bytes, after locals which become those of the entry; or tells its
 /// least fault. The running frame becomes the one that is declared.
 fn declare_one<St: Starts, C: Classes>(
     entry: &MapEntry,
@@ -332,7 +332,7 @@ fn declare_one<St: Starts, C: Classes>(
     Ok(None)
 }
 
-/// Declares the frames of entries behind these locals, or tells the first entry that is refused.
+/// Declares the frames of entries after these locals, or tells the first entry that is refused.
 fn declare_all<St: Starts, C: Classes>(
     entries: &[MapEntry],
     limits: &Limits<'_, '_, St>,
@@ -367,7 +367,7 @@ fn declare_all<St: Starts, C: Classes>(
     Ok(Ok(()))
 }
 
-/// Declares the frames of a method's stack map as [`declare`] does, behind locals of which there are none yet.
+/// Declares the frames of a method's stack map as [`declare`] does, after locals of which there are none yet.
 fn declare_within<St: Starts, C: Classes>(
     entries: &[MapEntry],
     limits: &Limits<'_, '_, St>,

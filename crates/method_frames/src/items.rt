@@ -44,7 +44,7 @@ fn make_room(numbers: &mut Vec<u32>) -> Result<(), AllocError>
     numbers.reserve(1)
 }
 
-/// Puts a number behind the others.
+/// Puts a number after the others.
 #[inline(always)]
 pub(crate) fn append(number: u32, numbers: &mut Vec<u32>) -> Result<(), AllocError>
     ensures ok { OnOk result (numbers.new.items ≡ numbers.old.items ++ number ∷ []) }

@@ -87,7 +87,7 @@ impl MapLocals {
         self.own > 0
     }
 
-    /// Puts a local behind the others.
+    /// Puts a local after the others.
     #[inline(always)]
     pub fn push(&mut self, number: u32) -> Result<(), AllocError>
         ensures { OnOk result (self.new ≡ self.old ++ number ∷ []) }

@@ -28,7 +28,7 @@ later_unit u h n = by_case (is_name_unit u) (eqb u slash) h n
 
 -- ---- what the test takes is a class name
 
--- what stands behind the first unit of an unqualified name
+-- what stands after the first unit of an unqualified name
 data Behind (units : List ℕ) : Type 0 where
   last : list_all is_name_unit units ≡ true → Behind units
   more : (name others : List ℕ) → list_all is_name_unit name ≡ true → IsClassName others → units ≡ name ++ slash ∷ others → Behind units

@@ -89,7 +89,7 @@ shallow_result t h = or_from (is_deep t) false h refl
 
 -- ---- the loop over parameters
 
--- these types were read, and so many bytes at most are read behind them
+-- these types were read, and so many bytes at most are read after them
 pub record SoFar (bytes rest : List ℕ) (types : List FieldDescriptor) : Type 0 where
   pub room : ℕ
   pub enough : length rest ≤ room

@@ -158,7 +158,7 @@ record ParamsStop (bytes rest : List ℕ) : Type 0 where
 stop_at_nothing : (rest : List ℕ) → [] ≡ rest → ParamsStop [] rest
 stop_at_nothing rest e = subst (ParamsStop []) e (record { front = []; more = right_parenthesis ∷ []; types = []; parts = refl; begins = no_params; alike = λ n b r others is le. absurd cc })
 
--- the first byte of a front and a byte behind it is the same, whatever follows
+-- the first byte of a front and a byte after it is the same, whatever follows
 same_start : (front : List ℕ) (b c : ℕ) (bytes r others : List ℕ) → b ∷ bytes ≡ front ++ c ∷ r → (x : List ℕ) × (front ++ c ∷ others ≡ b ∷ x)
 same_start [] b c bytes r others e = (others, ap (λ (x : ℕ). x ∷ others) (sym (first_of_two b c bytes r e)))
 same_start (y ∷ front) b c bytes r others e = (front ++ c ∷ others, ap (λ (x : ℕ). x ∷ (front ++ c ∷ others)) (sym (first_of_two b y bytes (front ++ c ∷ r) e)))

@@ -67,7 +67,7 @@ all_types (t ∷ types) more named shallow =
     let read = field_reader.complete (field_spelling t) rest t (record { named = named.0; spelled = refl }) in
     ap (λ (bs : List ℕ). types_at (length bs) bs) parts ∙ taken (field_spelling t ++ rest) rest t read d.0 ∙ ap (λ (ts : List FieldDescriptor). t ∷ ts) (all_types types more named.1 d.1)
 
--- those behind the '(' of a descriptor
+-- those after the '(' of a descriptor
 pub all_parameters : (bytes inside : List ℕ) (first : ℕ) (m : MethodDescriptor) → bytes ≡ first ∷ inside → SpellsMethod bytes m → AreWithinDimensions m → types_at (length inside) inside ≡ m.params
 all_parameters bytes inside first m is s w =
     let shallow =

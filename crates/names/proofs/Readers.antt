@@ -19,7 +19,7 @@ mapped_outside f (outside others) rest e = let is : others ≡ rest = cc in ap o
 
 -- ---- readers
 
--- where a reader of bytes stops with no value: behind a front that more bytes make whole
+-- where a reader of bytes stops with no value: after a front that more bytes make whole
 pub record StopsAt {A : Type 0} (read : List ℕ → Reading A) (Spells : List ℕ → A → Type 0) (bytes rest : List ℕ) : Type 0 where
   pub front : List ℕ
   pub more : List ℕ
@@ -47,7 +47,7 @@ same_found a b rest others e = cc
 pub one_value : {A : Type 0} (read : List ℕ → Reading A) (Spells : List ℕ → A → Type 0) → IsReader read Spells → (bytes : List ℕ) (a b : A) → Spells bytes a → Spells bytes b → a ≡ b
 one_value read Spells r bytes a b h k = same_found a b [] [] (sym (r.complete bytes [] a h) ∙ r.complete bytes [] b k)
 
--- of two cuts of one list, the longer front goes on with the byte behind the shorter one
+-- of two cuts of one list, the longer front goes on with the byte after the shorter one
 record Longer (f g s t : List ℕ) : Type 0 where
   first : ℕ
   mid : List ℕ
@@ -125,7 +125,7 @@ pub record BadFault (W : List ℕ → Type 0) (bytes : List ℕ) (e : NameFault)
 same_err : {A : Type 0} (d e : NameFault) → (let x : Result A NameFault = Err d in x) ≡ Err e → e ≡ d
 same_err d e is = cc
 
--- bytes behind a whole value
+-- bytes after a whole value
 bytes_over : {A : Type 0} (read : List ℕ → Reading A) (Spells : List ℕ → A → Type 0) → IsReader read Spells → (bytes rest : List ℕ) (a : A) (b : ℕ) → read bytes ≡ found a (b ∷ rest)
     → IsBadAt (IsSpelled Spells) bytes (length bytes - length (b ∷ rest))
 bytes_over {A} read Spells r bytes rest a b is =

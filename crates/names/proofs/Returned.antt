@@ -1,4 +1,4 @@
--- The result that is read behind parameters of which none is kept.
+-- The result that is read after parameters of which none is kept.
 use Rattle.std.proofs.Common.{◌≡◌, ℕ, Bool, true, false, cond, List, [], ◌∷◌, length, Option, Some, None, Result, Ok, Err, refl, sym, ap, ◌∙◌}
 use Rattle.std.specs.Prelude.{◌≤◌, ◌<◌, IfSome, IfOk, IfErr}
 use Rattle.std.specs.Result.{result_ok}

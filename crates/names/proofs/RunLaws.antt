@@ -29,7 +29,7 @@ is_lane b x = cond (eqb x b) 255 0
 abbrev pub others : ℕ → ℕ
 others x = bit_or (bit_or (is_lane 46 x) (is_lane 59 x)) (is_lane 91 x)
 
--- the lane of a byte behind the other
+-- the lane of a byte after the other
 abbrev pub stop : ℕ → ℕ → ℕ
 stop x y = bit_or (others x) (bit_and (is_lane 47 x) (is_lane 47 y))
 

@@ -64,7 +64,7 @@ plain_so b h =
 pub plain_goes_on : (fresh : Bool) (b : ℕ) → IsPlain b → goes_on fresh b ≡ true
 plain_goes_on fresh b plain = or_left (is_name_unit b) (not fresh && eqb b slash) plain.unit
 
--- ---- a byte behind the begin of the unqualified name that is read
+-- ---- a byte after the begin of the unqualified name that is read
 
 pub not_first : (at start : ℕ) → start ≤ at → eqb (at + 1) start ≡ false
 not_first at start behind = ne_eqb (at + 1) start (λ e. omega (arith, e, behind))
@@ -132,7 +132,7 @@ no_class_there bytes front fresh lt stops e c =
     let is = drop_more bytes front 0 lt in
     false≢true (sym (e ∙ ap (ends_class_name fresh) is ∙ ends_stop fresh b rest (stops b rest is)) ∙ class_name_ends bytes c)
 
--- ---- reading behind the front
+-- ---- reading after the front
 
 -- the bytes are a front of a class name and a rest with which it does not go on
 pub record Scanned (bytes name rest : List ℕ) (fresh : Bool) : Type 0 where

@@ -1,4 +1,4 @@
--- Bytes that spell a unit each are a text, and so is what lanes pass behind a text.
+-- Bytes that spell a unit each are a text, and so is what lanes pass after a text.
 use Rattle.std.proofs.Common.{◌≡◌, ℕ, zero, suc, ◌+◌, ◌-◌, ◌≤◌, ◌<◌, List, [], ◌∷◌, ◌++◌, refl, length, get_or, take, drop, Some, None, true, sym, ap, ◌∙◌, subst, arith}
 use Rattle.std.proofs.lemmas.Bool.{and_parts, ltb-true, not-true, eqb-false}
 use Rattle.std.proofs.lemmas.List.{drop_more, take_at, take-append-drop, length-take-le}
@@ -20,7 +20,7 @@ read_single bytes at read within is =
     let one = single_unit (get_or bytes at 0) (drop (at + 1) bytes) is in
     read_on bytes at (get_or bytes at 0) 1 read (ap unit_at (drop_more bytes at 0 within) ∙ one)
 
--- past n bytes behind a place
+-- past n bytes after a place
 pub read_run : (n : ℕ) (bytes : List ℕ) (at : ℕ) → ReadTo bytes at → at + n ≤ length bytes → AreBetween is_single bytes at (at + n) → ReadTo bytes (at + n)
 read_run zero bytes at read within single = subst (ReadTo bytes) (omega arith) read
 read_run (suc n) bytes at read within single =

@@ -16,7 +16,7 @@ use Rattle.names.proofs.Steps.{brackets, base_is_class, base_is_primitive, field
 
 -- ---- class names
 
--- behind these bytes a class name ends with the ';' in front of the others
+-- after these bytes a class name ends with the ';' in front of the others
 abbrev pub NamesUpTo : Bool → List ℕ → List ℕ → Type 0
 NamesUpTo fresh bytes rest = (name : List ℕ) × (read_class fresh bytes ≡ found name rest)
 

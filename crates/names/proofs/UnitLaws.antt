@@ -115,7 +115,7 @@ least_long u e = grind (arith, nat_tests)
 least_short : (u : ℕ) → (leb 128 u || eqb u 0 && eqb 2 2) ≡ true → (128 ≤ u) ⊎ (u ≡ 0)
 least_short u e = elim (cases_lt u 128) [ inl h ↦ inr (grind (arith, nat_tests)) | inr h ↦ inl h ]
 
--- the two bytes behind a first byte of 192 to 223
+-- the two bytes after a first byte of 192 to 223
 in_two : (a : ℕ) (bs : List ℕ) (x : ℕ × ℕ) → 192 ≤ a → a < 224 → two a bs ≡ Some x → Begins (a ∷ bs) x.0 x.1
 in_two a [] x h k e = absurd cc
 in_two a (b ∷ bs) x h k e =
@@ -220,7 +220,7 @@ one_text (u ∷ a) (v ∷ b) h k e =
     let inner : a ≡ b = one_text a b h.1 k.1 (append_cancel_left (unit u) (spelling a) (spelling b) e2) in
     ap (λ (x : ℕ). x ∷ a) is ∙ ap (λ (x : List ℕ). v ∷ x) inner
 
--- behind the unit that a text begins with stands a text
+-- after the unit that a text begins with stands a text
 after_unit : (rest : List ℕ) (u n : ℕ) → unit_at rest ≡ Some (u, n) → IsText rest → IsText (drop n rest)
 after_unit rest u n e t = by_units t.units t.fit t.spelled
   where
@@ -273,7 +273,7 @@ some_bytes u = by_case (unit u) (spelt u)
     by_case _ (pair h k) = omega arith
     by_case _ (triple h) = omega arith
 
--- behind units the fault is that of what follows
+-- after units the fault is that of what follows
 pub bad_past : (us others : List ℕ) (n at : ℕ) → AreUnits us → length (spelling us ++ others) ≤ n → (m : ℕ) × (length others ≤ m) × (bad_from n at (spelling us ++ others) ≡ bad_from m (at + length (spelling us)) others)
 bad_past [] others n at fit le = (n, le, ap (λ (k : ℕ). bad_from n k others) (omega arith))
 bad_past (u ∷ us) others zero at fit le = absurd (omega (arith, le, some_bytes u, length-append (unit u ++ spelling us) others, length-append (unit u) (spelling us)))
@@ -431,7 +431,7 @@ units_on_from (b ∷ bs) u n e =
     ap (units_behind (units_from (length bs)) (b ∷ bs)) e
     ∙ ap (λ us. u ∷ us) (same_units (length bs) (length (drop n (b ∷ bs))) (drop n (b ∷ bs)) (omega (arith, left, in_front.1)) (omega arith))
 
--- there are fewer behind it
+-- there are fewer after it
 pub fewer_units : (bytes : List ℕ) (u n : ℕ) → unit_at bytes ≡ Some (u, n) → length (units_of (drop n bytes)) < length (units_of bytes)
 fewer_units bytes u n e = omega (arith, ap length (units_on_from bytes u n e))
 

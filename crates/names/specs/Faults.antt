@@ -12,12 +12,12 @@ number_of (BadDescriptor at) = 4
 number_of TooManyDimensions = 5
 number_of TooWide = 6
 
--- with some more bytes behind them, or with none, the bytes are whole
+-- with some more bytes after them, or with none, the bytes are whole
 pub record IsBeginning (IsWhole : List ℕ → Type 0) (front : List ℕ) : Type 0 where
   pub more : List ℕ
   pub whole : IsWhole (front ++ more)
 
--- behind a beginning stands a byte with which it is no longer a beginning, or nothing although it is not whole
+-- after a beginning stands a byte with which it is no longer a beginning, or nothing although it is not whole
 abbrev pub IsStuck : (List ℕ → Type 0) → List ℕ → List ℕ → Type 0
 IsStuck IsWhole front [] = ¬ IsWhole front
 IsStuck IsWhole front (b ∷ rest) = ¬ IsBeginning IsWhole (front ++ b ∷ [])

@@ -41,7 +41,7 @@ first_set mask n = if nat_eq mask 0 then n else trailing_zeros w64 mask
 abbrev pub joins : ℕ → ℕ → Bool
 joins b next = (is_name_unit b || nat_eq b slash) && not (nat_eq b slash && nat_eq next slash)
 
--- each byte from one place up to another, and the one behind it
+-- each byte from one place up to another, and the one after it
 abbrev pub AreJoinedBetween : List ℕ → ℕ → ℕ → Type 0
 AreJoinedBetween bytes at end = (k : ℕ) → at ≤ k → k < end
     → joins (slice_index bytes k) (slice_index bytes (k + 1)) ≡ true

@@ -6,7 +6,7 @@ use Rattle.names.specs.Reading.{Reading, found, outside, is_deep, read_field}
 use Rattle.names.specs.declared.descriptor.FieldType.{FieldType}
 use Rattle.names.specs.declared.parameters.Parameters.{Parameters}
 
--- a type, unless it has too many dimensions, and others behind it
+-- a type, unless it has too many dimensions, and others after it
 abbrev pub type_and : Reading FieldDescriptor → (List ℕ → List FieldDescriptor) → List FieldDescriptor
 type_and (outside rest) others = []
 type_and (found t rest) others = if is_deep t then [] else t ∷ others rest

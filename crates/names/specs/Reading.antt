@@ -11,7 +11,7 @@ use Rattle.names.specs.declared.fault.NameFault.TheVariants.{BadDescriptor, TooM
 
 -- what stands at the front of a byte list
 pub data Reading (A : Type 0) : Type 0 where
-  -- a value, and the bytes behind it
+  -- a value, and the bytes after it
   found : A → List ℕ → Reading A
   -- no value: the bytes from the first on that fits no value
   outside : List ℕ → Reading A

@@ -25,7 +25,7 @@ pub record IsText (bytes : List ℕ) : Type 0 where
   pub fit : AreUnits units
   pub spelled : bytes ≡ spelling units
 
--- behind the first k bytes, which spell units, stand bytes with which no unit's spelling begins
+-- after the first k bytes, which spell units, stand bytes with which no unit's spelling begins
 pub record FirstBad (bytes : List ℕ) (k : ℕ) : Type 0 where
   pub units : List ℕ
   pub others : List ℕ

@@ -32,7 +32,7 @@ unit_at (a ∷ bs) =
 abbrev pub is_single : ℕ → Bool
 is_single b = nat_lt b 128 && not (nat_eq b 0)
 
--- what the rest of a text says behind a unit, if there is one
+-- what the rest of a text says after a unit, if there is one
 abbrev pub bad_behind : (ℕ → List ℕ → Option ℕ) → ℕ → List ℕ → Option (ℕ × ℕ) → Option ℕ
 bad_behind f at bytes None = Some at
 bad_behind f at bytes (Some x) = f (at + x.1) (drop x.1 bytes)
@@ -49,7 +49,7 @@ bad_text bytes = bad_from (length bytes) 0 bytes
 
 -- ---- the units of a text
 
--- the unit in front, and those behind it
+-- the unit in front, and those after it
 abbrev pub units_behind : (List ℕ → List ℕ) → List ℕ → Option (ℕ × ℕ) → List ℕ
 units_behind f bytes None = []
 units_behind f bytes (Some x) = x.0 ∷ f (drop x.1 bytes)

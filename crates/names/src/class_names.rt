@@ -1,4 +1,4 @@
-//! Class names told by lanes: bytes of unqualified names, and between them a `/` with no other behind it (JVMS 4.2.1).
+//! Class names told by lanes: bytes of unqualified names, and between them a `/` with no other after it (JVMS 4.2.1).
 
 ghost use Rattle.std.specs.Prelude.{◌≡◌, ◌+◌, ◌-◌, ◌≤◌, true, length};
 ghost use Rattle.names.specs.Forms.{AreJoinedBetween};
@@ -7,7 +7,7 @@ ghost use Rattle.names.specs.Names.{IsClassName};
 use crate::plain_bytes::is_plain;
 use std::simd::prelude::*;
 
-/// Whether each of sixteen bytes from a place on is seen to be one of a class name that the byte behind it may follow.
+/// Whether each of sixteen bytes from a place on is seen to be one of a class name that the byte after it may follow.
 #[inline(always)]
 fn are_joined_in_sixteen(bytes: &[u8], at: usize) -> bool
     requires { at + 17 ≤ length bytes.now }
@@ -23,7 +23,7 @@ fn are_joined_in_sixteen(bytes: &[u8], at: usize) -> bool
     stops.to_bitmask() == 0
 }
 
-/// Whether each of eight bytes from a place on is seen to be one of a class name that the byte behind it may follow.
+/// Whether each of eight bytes from a place on is seen to be one of a class name that the byte after it may follow.
 #[inline(always)]
 fn are_joined_in_eight(bytes: &[u8], at: usize) -> bool
     requires { at + 9 ≤ length bytes.now }

@@ -60,7 +60,7 @@ fn is_class_name_by_front(name: &[u8]) -> bool
     front == name.len() && !fresh
 }
 
-/// How many bytes begin a class name, and whether an unqualified name has still to begin behind them. The unqualified
+/// How many bytes begin a class name, and whether an unqualified name has still to begin after them. The unqualified
 /// name that is read begins at `start`.
 pub(crate) fn class_name_front(bytes: &[u8]) -> (usize, bool)
     ensures within { result.0 ≤ length bytes.now }

@@ -8,14 +8,14 @@ ghost use Rattle.names.specs.private.TypeEnds.{AreStops, AreStopsUpTo, GoesOnUpT
 use crate::name::is_name_byte;
 use std::simd::prelude::*;
 
-/// Whether a class name goes on with the byte, behind the other.
+/// Whether a class name goes on with the byte, after the other.
 fn goes_on(before: u8, b: u8) -> bool
     ensures { result ≡ goes_on (nat_eq before slash) b }
 {
     is_name_byte(b) || (b == b'/' && before != b'/')
 }
 
-/// For sixteen bytes from a place on a bit each: set where no class name goes on with it, behind the byte before it.
+/// For sixteen bytes from a place on a bit each: set where no class name goes on with it, after the byte before it.
 #[inline(always)]
 fn stops_in_sixteen(bytes: &[u8], at: usize) -> u64
     requires behind { 1 ≤ at }
@@ -46,8 +46,8 @@ fn run_end_of_few(bytes: &[u8], start: usize) -> usize
     at
 }
 
-/// For the first 64 bytes a bit each behind the first, where there are more than sixteen: set where no class name goes
-/// on with it, behind the byte before it.
+/// For the first 64 bytes a bit each after the first, where there are more than sixteen: set where no class name goes
+/// on with it, after the byte before it.
 pub(crate) fn stops_in_front(bytes: &[u8]) -> u64
     ensures { 16 < length bytes.now → AreStopsUpTo bytes.now (length bytes.now) result }
 {
@@ -64,7 +64,7 @@ pub(crate) fn stops_in_front(bytes: &[u8]) -> u64
     stops
 }
 
-/// The first place from one on where no class name goes on, behind the byte before it, or the end of the bytes. The
+/// The first place from one on where no class name goes on, after the byte before it, or the end of the bytes. The
 /// bytes' `stops` are those of [`stops_in_front`].
 #[inline(always)]
 pub(crate) fn name_end(bytes: &[u8], start: usize, stops: u64) -> usize
@@ -83,7 +83,7 @@ pub(crate) fn name_end(bytes: &[u8], start: usize, stops: u64) -> usize
     run_end(bytes, start)
 }
 
-/// The first place from one on where no class name goes on, behind the byte before it, or the end of the bytes.
+/// The first place from one on where no class name goes on, after the byte before it, or the end of the bytes.
 #[inline(never)]
 fn run_end(bytes: &[u8], start: usize) -> usize
     requires behind { 1 ≤ start }

@@ -38,7 +38,7 @@ pub(crate) fn is_first(bytes: &[u8], b: u8) -> bool
     }
 }
 
-/// A class name up to its `;`, and the bytes behind that.
+/// A class name up to its `;`, and the bytes after that.
 fn read_class(bytes: &[u8]) -> Result<(&[u8], &[u8]), Outside<'_>>
     ensures { MatchResult result (λ x. read_class true bytes.now ≡ found x.0.now x.1.now)
         (λ e. read_class true bytes.now ≡ outside e.rest.now) }
@@ -73,7 +73,7 @@ fn primitive_of(letter: u8) -> Option<Primitive>
     }
 }
 
-/// A primitive type or a class, and the bytes behind it.
+/// A primitive type or a class, and the bytes after it.
 fn read_base(bytes: &[u8]) -> Result<(Base<'_>, &[u8]), Outside<'_>>
     ensures { MatchResult result (λ x. read_base bytes.now ≡ found (base_of x.0) x.1.now)
         (λ e. read_base bytes.now ≡ outside e.rest.now) }
@@ -122,7 +122,7 @@ pub(crate) fn brackets(bytes: &[u8]) -> usize
     bytes.iter().take_while(|b| **b == b'[').count()
 }
 
-/// A field type, and the bytes behind it.
+/// A field type, and the bytes after it.
 pub(crate) fn read_field(bytes: &[u8]) -> Result<(FieldRead<'_>, &[u8]), Outside<'_>>
     ensures { MatchResult result (λ x. read_field bytes.now ≡ found (type_read x.0) x.1.now)
         (λ e. read_field bytes.now ≡ outside e.rest.now) }
@@ -208,7 +208,7 @@ impl<'a> Params<'a> {
     }
 }
 
-/// Field types up to a `)`, and what stands behind that. The bytes are the end of a text of `total` bytes.
+/// Field types up to a `)`, and what stands after that. The bytes are the end of a text of `total` bytes.
 fn read_params<'a>(
     alloc: Global,
     bytes: &'a [u8],
@@ -242,7 +242,7 @@ fn read_params<'a>(
     }
 }
 
-/// A field type or a `V`, and what stands behind it.
+/// A field type or a `V`, and what stands after it.
 pub(crate) fn read_result(bytes: &[u8]) -> Result<(Option<FieldRead<'_>>, &[u8]), Outside<'_>>
     ensures { MatchResult result (λ x. read_result bytes.now ≡ found (option_map type_read x.0) x.1.now)
         (λ e. read_result bytes.now ≡ outside e.rest.now) }
@@ -257,7 +257,7 @@ pub(crate) fn read_result(bytes: &[u8]) -> Result<(Option<FieldRead<'_>>, &[u8])
     }
 }
 
-/// Parameters and a result, and what stands behind them.
+/// Parameters and a result, and what stands after them.
 fn read_method<'a>(
     alloc: Global,
     bytes: &'a [u8],
@@ -366,7 +366,7 @@ pub fn method_type(
     judge_method(alloc, text.bytes(), receiver)
 }
 
-/// Field types up to a `)`, of which none is kept, and what stands behind that.
+/// Field types up to a `)`, of which none is kept, and what stands after that.
 fn behind_params(bytes: &[u8]) -> Result<&[u8], Outside<'_>>
     ensures { MatchResult result (λ rest. PassesParams bytes.now rest.now)
         (λ e. read_params (length bytes.now) bytes.now ≡ outside e.rest.now) }
@@ -384,7 +384,7 @@ fn behind_params(bytes: &[u8]) -> Result<&[u8], Outside<'_>>
     }
 }
 
-/// The result behind parameters of which none is kept, and what stands behind it.
+/// The result after parameters of which none is kept, and what stands after it.
 fn read_returned(bytes: &[u8]) -> Result<(Option<FieldRead<'_>>, &[u8]), Outside<'_>>
     ensures { MatchResult result (λ x. PassesMethod bytes.now x.0 x.1.now)
         (λ e. read_method bytes.now ≡ outside e.rest.now) }

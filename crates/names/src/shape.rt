@@ -39,7 +39,7 @@ pub fn method_shape(text: Text<'_>, receiver: bool) -> Result<MethodShape, NameF
     }
 }
 
-/// The place of the `)` behind parameters, and their units, where each of them is seen.
+/// The place of the `)` after parameters, and their units, where each of them is seen.
 fn params_seen(bytes: &[u8], stops: u64) -> Option<(usize, usize)>
     requires some { 1 ≤ length bytes.now }
     requires stops { 16 < length bytes.now → AreStopsUpTo bytes.now (length bytes.now) stops }
@@ -148,7 +148,7 @@ impl Measured {
     }
 }
 
-/// Field types up to a `)`, which are measured, and what stands behind that.
+/// Field types up to a `)`, which are measured, and what stands after that.
 fn measure_params(bytes: &[u8]) -> Result<(Measured, &[u8]), Outside<'_>>
     ensures { MatchResult result (λ x. SumsParams bytes.now x.0 x.1.now)
         (λ e. read_params (length bytes.now) bytes.now ≡ outside e.rest.now) }
@@ -173,7 +173,7 @@ fn measure_params(bytes: &[u8]) -> Result<(Measured, &[u8]), Outside<'_>>
     }
 }
 
-/// Parameters, which are measured, and a result, and what stands behind them.
+/// Parameters, which are measured, and a result, and what stands after them.
 fn measure_method(bytes: &[u8]) -> Result<(Measured, Option<FieldRead<'_>>, &[u8]), Outside<'_>>
     ensures { MatchResult result (λ x. SumsMethod bytes.now x.0 x.1 x.2.now)
         (λ e. read_method bytes.now ≡ outside e.rest.now) }

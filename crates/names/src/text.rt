@@ -113,7 +113,7 @@ pub fn unit_at(bytes: &[u8]) -> Option<(u16, usize)>
     }
 }
 
-/// Passes the unit at a place, which takes more bytes than one, and those behind it that do. `Err` has the place of the
+/// Passes the unit at a place, which takes more bytes than one, and those after it that do. `Err` has the place of the
 /// first unit without a right spelling.
 fn past_longer(bytes: &[u8], from: usize) -> Result<usize, usize>
     requires within { from < length bytes.now }

@@ -11,7 +11,7 @@ use Rattle.hierarchy.specs.Places.{place_in}
 use Rattle.hierarchy.proofs.Names.{none_some, some_same}
 use Rattle.insn.specs.Meanings.{Act}
 use Rattle.insn.specs.OperandStacks.{beneath}
-use Rattle.insn.specs.declared.operation.Kind.TheVariants.{Int}
+use Rattle.insn.specs.declared.kinds.Kind.TheVariants.{Int}
 use Rattle.frames.specs.Conditions.{reason}
 use Rattle.frames.specs.FrameFact.{FrameFact}
 use Rattle.frames.specs.VerificationType.{VerificationType, top, null, array}

@@ -4,8 +4,8 @@ use Rattle.std.proofs.lemmas.Bool.{cond-true, true≢false}
 use Rattle.names.specs.Descriptors.{FieldDescriptor, primitive, class as class_descriptor, array as array_descriptor}
 use Rattle.names.specs.ReferenceTypes.{ReferenceType, class_type, array_type}
 use Rattle.hierarchy.proofs.Names.{none_some, some_same}
-use Rattle.insn.specs.declared.operation.Kind.{Kind}
-use Rattle.insn.specs.declared.operation.Kind.TheVariants.{Int, Long, Float, Double}
+use Rattle.insn.specs.declared.kinds.Kind.{Kind}
+use Rattle.insn.specs.declared.kinds.Kind.TheVariants.{Int, Long, Float, Double}
 use Rattle.insn.specs.Kinds.{computed_as, same_kind}
 use Rattle.frames.specs.VerificationType.{class, array}
 use Rattle.frames.specs.Slots.{descriptor_type, number_type, to_reference}

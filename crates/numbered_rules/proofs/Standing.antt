@@ -6,8 +6,8 @@ use Rattle.names.specs.declared.base.Primitive.{Primitive}
 use Rattle.names.specs.Descriptors.{FieldDescriptor, primitive, class as class_descriptor, array as array_descriptor}
 use Rattle.names.specs.ReferenceTypes.{ReferenceType}
 use Rattle.hierarchy.specs.Class.{ClassFact}
-use Rattle.insn.specs.declared.operation.Kind.{Kind}
-use Rattle.insn.specs.declared.operation.Kind.TheVariants.{Int, Long, Float, Double}
+use Rattle.insn.specs.declared.kinds.Kind.{Kind}
+use Rattle.insn.specs.declared.kinds.Kind.TheVariants.{Int, Long, Float, Double}
 use Rattle.frames.specs.VerificationType.{VerificationType, array, class, uninit_this}
 use Rattle.frames.specs.Assignable.{type_answer}
 use Rattle.frames.specs.Slots.{descriptor_type, number_type, to_reference}

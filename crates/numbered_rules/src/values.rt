@@ -2,7 +2,7 @@
 ghost use Rattle.std.specs.Prelude.{◌≡◌, [], ◌∷◌, true, length};
 ghost use Rattle.insn.specs.Kinds.{kind_units};
 ghost use Rattle.insn.specs.Operators.{numeric_row};
-ghost use Rattle.insn.specs.declared.operation.Kind.TheVariants.{Int};
+ghost use Rattle.insn.specs.declared.kinds.Kind.TheVariants.{Int};
 ghost use Rattle.frames.specs.Slots.{number_type};
 ghost use Rattle.frames.specs.VerificationType.{class, int, null};
 ghost use Rattle.names.specs.StandardNames.{throwable_name};

@@ -3,7 +3,7 @@
 use insn::{Meaning, Opcode};
 use std::io;
 
-/// Prints a line for each opcode: its number, its name, what stands behind it, what it means, and
+/// Prints a line for each opcode: its number, its name, what stands after it, what it means, and
 /// what the instruction takes from the stack and leaves there where the meaning alone tells it.
 pub fn print(rt: &HostRuntime) -> io::Result<()> {
     for number in 0..=201u8 {

@@ -46,7 +46,7 @@ text_or bytes (Some k) = refuse (λ at. BadText ((at - length bytes) + k))
 unfoldable pub utf8 : Format Entry
 utf8 = andthen (number 2) (λ n. part n (λ bytes. text_or bytes (bad_text bytes)))
 
--- the reference behind a kind that was just read, where it is one (JVMS 4.4.8)
+-- the reference after a kind that was just read, where it is one (JVMS 4.4.8)
 abbrev pub kind_or : ℕ → Option ReferenceKind → Format Entry
 kind_or n None = refuse (λ at. BadTag (at - 1) n)
 kind_or n (Some kind) = andthen (number 2) (λ reference. done (MethodHandle kind reference))
@@ -58,7 +58,7 @@ method_handle = andthen (number 1) (λ n. kind_or n (kind_of n))
 abbrev pub wide : Bool → ℕ → Format Entry → Format Entry
 wide last tag format = if last then refuse (λ at. BadTag (at - 1) tag) else format
 
--- what stands behind a tag (JVMS 4.4); `last` says that no second index is left
+-- what stands after a tag (JVMS 4.4); `last` says that no second index is left
 abbrev pub body : Bool → ℕ → Format Entry
 body last tag =
     if nat_eq tag 1 then utf8

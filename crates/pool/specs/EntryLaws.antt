@@ -121,7 +121,7 @@ kind_is n k =
     (this_or n InvokeInterface k _
     (λ (e : None ≡ Some k). absurd cc)))))))))
 
--- the reference of a method handle, behind its kind
+-- the reference of a method handle, after its kind
 reference_of : (kind : ReferenceKind)
     → Made (andthen (number 2) (λ reference. done (MethodHandle kind reference)))
     (λ reference. MethodHandle kind reference) (field 2)

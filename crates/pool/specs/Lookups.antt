@@ -5,7 +5,7 @@ use Rattle.pool.specs.declared.fault.PoolFault.{PoolFault}
 use Rattle.pool.specs.declared.fault.PoolFault.TheVariants.{BadIndex, WrongKind}
 use Rattle.pool.specs.Entries.{Entry, Utf8, Class, NameAndType, Fieldref, Methodref, InterfaceMethodref, Dynamic, InvokeDynamic, Unusable}
 
--- the next step, behind one that found something
+-- the next step, after one that found something
 abbrev pub and_then : {A B : Type 0} → Result A PoolFault → (A → Result B PoolFault) → Result B PoolFault
 and_then (Ok a) next = next a
 and_then (Err e) next = Err e

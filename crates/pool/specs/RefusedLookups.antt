@@ -20,7 +20,7 @@ pub data Wanted : Type 0 where
 abbrev pub Step : Type 0
 Step = ℕ × Wanted
 
--- what is looked for behind an entry that fits, by its fields (4.4.1, 4.4.2, 4.4.6, 4.4.10); no other entry fits
+-- what is looked for after an entry that fits, by its fields (4.4.1, 4.4.2, 4.4.6, 4.4.10); no other entry fits
 abbrev pub leads : Wanted → Entry → Option (List Step)
 leads a_text (Utf8 bytes) = Some []
 leads a_class (Class name) = Some ((name, a_text) ∷ [])

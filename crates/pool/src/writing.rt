@@ -15,7 +15,7 @@ use std::alloc::Global;
 
 /// Writes the pool: its count and its entries. 17 `DoesNotFit` where it has over 65,534 indices, a
 /// text over 65,535 bytes, or there is no room; 18 `HasNoSpelling` is noted where an `Unusable`
-/// stands elsewhere than behind a Long or Double, something else stands there, or a Long or Double
+/// stands elsewhere than after a Long or Double, something else stands there, or a Long or Double
 /// stands at the last index.
 pub fn put_pool(out: &mut Output, pool: &Pool<'_>) -> Result<(), WriteFault>
     ensures { Goes (pool_pieces pool.now) out.old out.new result }
@@ -47,7 +47,7 @@ fn put_counted(out: &mut Output, constants: &[Constant<'_>]) -> Result<(), Write
     put_entries(out, constants)
 }
 
-/// Writes the constants at all indices, one behind the other.
+/// Writes the constants at all indices, one after the other.
 fn put_entries(out: &mut Output, constants: &[Constant<'_>]) -> Result<(), WriteFault>
     ensures { Goes (entries_pieces false (views constants.now)) out.old out.new result }
 {
@@ -124,7 +124,7 @@ fn put_constant(out: &mut Output, constant: &Constant<'_>, last: bool) -> Result
     }
 }
 
-/// A tag and a text behind its length.
+/// A tag and a text after its length.
 #[tactic(auto, using(layout::specs::PieceLaws::writes_append))]
 fn put_text(out: &mut Output, text: Text<'_>) -> Result<(), WriteFault>
     ensures { let bytes = text.entry.bytes.now in

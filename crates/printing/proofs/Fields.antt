@@ -1,4 +1,4 @@
--- Fields behind others, and strings of an array, one of each item.
+-- Fields after others, and strings of an array, one of each item.
 use Rattle.std.proofs.Common.{◌≡◌, ◌∙◌, ℕ, List, [], ◌∷◌, ◌++◌, map, refl, sym, ap}
 use Rattle.std.specs.Prelude.{codes}
 use Rattle.std.specs.List.{flat_map}

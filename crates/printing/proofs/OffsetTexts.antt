@@ -18,7 +18,7 @@ blanks n = replicate n 32
 abbrev ends : ℕ → List ℕ
 ends n = replicate n 10
 
--- behind a short name the line ends
+-- after a short name the line ends
 behind_name : (n : ℕ) → n < 25 → drop (23 + n - 23) (drop 23 EMPTY_LINE) ≡ 10 ∷ ends (24 - n)
 behind_name n few = drop-replicate (23 + n - 23) 25 10 ∙ ap ends (let e : 25 - (23 + n - 23) ≡ suc (24 - n) = omega (arith, few) in e)
 

@@ -43,7 +43,7 @@ module _ (text : ℕ → List ℕ) where
       let behind : StandInFront text bytes (length bytes) = (omega arith, λ k from to. stand.1 (suc k) (omega arith) (omega (arith, to))) in
       ap₂ (λ t rest. t ++ rest) (stand.1 0 (omega arith) (omega arith)).alone (bytes_text bytes behind)
 
-  -- behind what was written, a run in front of other bytes
+  -- after what was written, a run in front of other bytes
   module _ (a b : Option (List ℕ)) (whole bytes run behind : List ℕ) (n : ℕ) (stand : StandInFront text bytes n)
       (front : run ≡ take n bytes) (back : behind ≡ drop n bytes) (so : SoFar a b whole (written bytes)) where
     run_left : SoFar a b whole (run ++ written behind)
@@ -55,7 +55,7 @@ module _ (text : ℕ → List ℕ) where
     pub run_written : (c : Option (List ℕ)) → Appends b c run → SoFar a c whole (written behind)
     run_written c now = one_more a b c whole run (written behind) run_left now
 
-  -- and the unit behind it
+  -- and the unit after it
   module _ (a b : Option (List ℕ)) (whole bytes : List ℕ) (u n : ℕ) (is : unit_at bytes ≡ Some (u, n)) (so : SoFar a b whole (written bytes)) where
     unit_left : SoFar a b whole (text u ++ written (drop n bytes))
     unit_left = with_left _ _ _ _ _ (ap (flat_map text) (units_on_from bytes u n is)) so

@@ -53,7 +53,7 @@ module _ (old new : Place) (step : Result (ℕ × Option ℕ) CodeFault) (s : St
   start_here e is =
       fault_here (λ (y : ℕ × Instruction). y) old new (Err e) e (subst (λ (r : Result (ℕ × Option ℕ) CodeFault). StepsBy (λ (y : ℕ × Option ℕ). y) by_made old (Some r) new) is s) refl
 
--- the instructions that are left behind one
+-- the instructions that are left after one
 pub left_behind : (x : ℕ × Instruction) (r : CodeResult) (xs : List (ℕ × Instruction)) → behind x r ≡ Ok xs → (ys : List (ℕ × Instruction)) × (r ≡ Ok ys) × (xs ≡ x ∷ ys)
 left_behind x (Ok ys) xs e = let same : x ∷ ys ≡ xs = cc in (ys, refl, sym same)
 left_behind x (Err f) xs e = absurd cc

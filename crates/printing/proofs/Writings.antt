@@ -1,4 +1,4 @@
--- Texts written one behind the other.
+-- Texts written one after the other.
 use Rattle.std.proofs.Common.{◌≡◌, ◌<◌, ◌+◌, ℕ, List, [], ◌++◌, refl, ◌∙◌, Option, Some, None, Result, Ok, Err, sym, ap, subst, append_assoc, length, drop, slice_index_or}
 use Rattle.std.specs.List.{flat_map}
 use Rattle.std.proofs.lemmas.List.{at_drop_more, append-nil}
@@ -13,13 +13,13 @@ Appends_kept (Some x) None c bs p q = absurd p
 Appends_kept (Some x) (Some y) None bs p q = absurd q
 Appends_kept (Some x) (Some y) (Some z) bs p q = q ∙ p
 
--- a text and a prefix of the text behind it are a prefix of both
+-- a text and a prefix of the text after it are a prefix of both
 pub front_behind : (a b c : Option (List ℕ)) (xs ys : List ℕ) → Appends a b xs → AppendsFront b c ys → AppendsFront a c (xs ++ ys)
 front_behind a b c xs ys p q =
     let (front, rest, split, more) = q in
     (xs ++ front, rest, ap (λ l. xs ++ l) split ∙ sym (append_assoc xs front rest), Appends-trans a b c xs front p more)
 
--- behind a text, what writes another
+-- after a text, what writes another
 pub then_writes : (a b c : Option (List ℕ)) (xs ys : List ℕ) (r : Result (Unit {0}) WriteFailed)
     → Appends a b xs → Writes b c ys r → Writes a c (xs ++ ys) r
 then_writes a b c xs ys (Ok u) p q = Appends-trans a b c xs ys p q
@@ -31,7 +31,7 @@ front_of_more a b xs ys p =
     let (front, rest, split, more) = p in
     (front, rest ++ ys, ap (λ l. l ++ ys) split ∙ append_assoc front rest ys, more)
 
--- the item at i, in front of those behind it
+-- the item at i, in front of those after it
 pub item_left : {X : Type 0} (f : X → List ℕ) (xs : List X) (i : ℕ) (x : X) → i < length xs → x ≡ slice_index_or xs i x
     → flat_map f (drop i xs) ≡ f x ++ flat_map f (drop (i + 1) xs)
 item_left f xs i x lt here = at_drop_more (flat_map f) xs i x lt ∙ ap (λ y. f y ++ flat_map f (drop (i + 1) xs)) (sym here)
@@ -41,7 +41,7 @@ pub front_inside : (a b c : Option (List ℕ)) (whole done part others : List �
 front_inside a b c whole done part others split p q =
     subst (AppendsFront a c) (sym split) (front_behind a b c done (part ++ others) p (front_of_more b c part others q))
 
--- ---- texts of a list, one behind the other
+-- ---- texts of a list, one after the other
 
 -- a front of the whole was written, and this is left
 abbrev pub SoFar : Option (List ℕ) → Option (List ℕ) → List ℕ → List ℕ → Type 0

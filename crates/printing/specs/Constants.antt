@@ -13,7 +13,7 @@ use Rattle.printing.specs.declared.names_in.Within.TheVariants.{Words, Json}
 use Rattle.printing.specs.Instructions.{number_text, index_text}
 use Rattle.printing.specs.Json.{Field, written}
 
--- a text behind a blank; nothing where there is none
+-- a text after a blank; nothing where there is none
 abbrev pub behind : Within → Result (List ℕ) PoolFault → List ℕ
 behind within (Ok bytes) = codes " " ++ name_in within bytes
 behind within (Err fault) = []
@@ -22,11 +22,11 @@ abbrev pub both_behind : Within → Result Named PoolFault → List ℕ
 both_behind within (Ok n) = codes " " ++ (name_in within n.name ++ (codes " " ++ name_in within n.descriptor))
 both_behind within (Err fault) = []
 
--- the text at an index, behind the index
+-- the text at an index, after the index
 abbrev pub text_behind : Within → List Entry → ℕ → List ℕ
 text_behind within pool i = index_text i ++ behind within (text_at pool i)
 
--- a member of a class, behind two indices
+-- a member of a class, after two indices
 abbrev pub member_behind : Within → List Entry → ℕ → ℕ → List ℕ
 member_behind within pool class name_and_type =
     index_text class ++ (index_text name_and_type

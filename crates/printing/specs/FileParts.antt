@@ -1,5 +1,5 @@
 -- The part of a file whose bytes are no class, in which the fault lies: a constant by its index and its kind, a field or a method by
--- its number, each behind two blanks; behind it an attribute by its number; and the fields of an object of JSON that
+-- its number, each after two blanks; after it an attribute by its number; and the fields of an object of JSON that
 -- say this.
 use Rattle.std.specs.Prelude.{ℕ, nat_eq, if◌then◌else◌, List, [], ◌∷◌, ◌++◌, codes, decimal, Option}
 use Rattle.std.specs.Option.{option_map_or}
@@ -10,7 +10,7 @@ use Rattle.printing.specs.FaultFields.{place_fields}
 use Rattle.printing.specs.Json as json
 use Rattle.printing.specs.Json.{number, written}
 
--- the kind of the constants with this tag, behind a blank (JVMS 4.4); nothing where there is none
+-- the kind of the constants with this tag, after a blank (JVMS 4.4); nothing where there is none
 abbrev pub kind_behind : ℕ → List ℕ
 kind_behind tag =
     if nat_eq tag 1 then codes " Utf8"

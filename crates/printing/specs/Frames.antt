@@ -31,17 +31,17 @@ type_text within (uninit at) = codes "uninitialized(" ++ (decimal at ++ codes ")
 abbrev pub more_text : VerificationType → List ℕ
 more_text t = codes ", " ++ type_text Words t
 
--- behind a blank, with commas between them
+-- after a blank, with commas between them
 abbrev pub types_text : List VerificationType → List ℕ
 types_text [] = []
 types_text (t ∷ ts) = codes " " ++ (type_text Words t ++ flat_map more_text ts)
 
--- a type in front of those that are in use behind it
+-- a type in front of those that are in use after it
 abbrev pub in_front : VerificationType → List VerificationType → List VerificationType
 in_front top [] = []
 in_front t ts = t ∷ ts
 
--- locals without the tops behind the last that is none
+-- locals without the tops after the last that is none
 abbrev pub in_use : List VerificationType → List VerificationType
 in_use [] = []
 in_use (t ∷ ts) = in_front t (in_use ts)

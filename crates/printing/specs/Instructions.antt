@@ -7,7 +7,7 @@ use Rattle.insn.specs.Code.{modified}
 use Rattle.insn.specs.Meanings.{offsets}
 use Rattle.insn.specs.Opcodes.{mnemonic}
 
--- ---- operands, each behind a blank
+-- ---- operands, each after a blank
 
 abbrev pub number_text : ℕ → List ℕ
 number_text n = codes " " ++ decimal n

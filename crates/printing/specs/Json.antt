@@ -67,7 +67,7 @@ Field = List ℕ × Value
 abbrev pub field_text : Field → List ℕ
 field_text f = string_text f.0 ++ (codes ":" ++ value_text f.1)
 
--- the fields behind others, and then this text
+-- the fields after others, and then this text
 abbrev pub fields_then : List Field → List ℕ → List ℕ
 fields_then [] rest = rest
 fields_then (f ∷ fs) rest = codes "," ++ (field_text f ++ fields_then fs rest)
@@ -76,7 +76,7 @@ fields_then (f ∷ fs) rest = codes "," ++ (field_text f ++ fields_then fs rest)
 abbrev pub object_end : List ℕ
 object_end = codes "}\n"
 
--- the fields behind others, and the end
+-- the fields after others, and the end
 abbrev pub fields_behind : List Field → List ℕ
 fields_behind fs = fields_then fs object_end
 

@@ -1,5 +1,5 @@
 -- The part of a decoded class at a place: a constant by its line, and the class, a field or a method by the lines of
--- `show`, each behind two blanks; the attribute of these that breaks a rule; and the fields of an object of JSON that
+-- `show`, each after two blanks; the attribute of these that breaks a rule; and the fields of an object of JSON that
 -- say what these lines say.
 use Rattle.std.specs.Prelude.{ℕ, nat_eq, if◌then◌else◌, List, [], ◌∷◌, ◌++◌, codes, decimal, slice_get}
 use Rattle.std.specs.Option.{option_map_or}

@@ -1,4 +1,4 @@
--- The bytes that a writer holds behind a call that writes a text.
+-- The bytes that a writer holds after a call that writes a text.
 use Rattle.std.specs.Prelude.{◌≡◌, ℕ, List, ◌++◌, Option, Result, Ok, Err}
 use Rattle.std.specs.Io.KnownBytes.{Appends}
 use Rattle.printing.specs.declared.print.WriteFailed.{WriteFailed}

@@ -116,7 +116,7 @@ impl<'a> Print for InstructionAt<'a> {
     }
 }
 
-/// Writes an instruction that was found at an offset as a field, if one was, and then what stands behind it.
+/// Writes an instruction that was found at an offset as a field, if one was, and then what stands after it.
 fn put_found_field<W: Write, B: Print + Copy>(
     out: &mut W,
     at: usize,
@@ -135,7 +135,7 @@ fn put_found_field<W: Write, B: Print + Copy>(
     }
 }
 
-/// The instruction that begins at an offset of code as a field, and then what stands behind it; no field where none
+/// The instruction that begins at an offset of code as a field, and then what stands after it; no field where none
 /// does, or where the code is refused.
 #[derive(Clone, Copy)]
 pub struct InstructionFields<'a, B> {
@@ -206,7 +206,7 @@ impl<'p, 'a> Print for NamedAt<'p, 'a> {
     }
 }
 
-/// Writes the constant that an instruction names as a field, if it names one, and then what stands behind it.
+/// Writes the constant that an instruction names as a field, if it names one, and then what stands after it.
 fn put_constant_field<W: Write, B: Print + Copy>(
     out: &mut W,
     pool: &Pool<'_>,
@@ -230,7 +230,7 @@ fn put_constant_field<W: Write, B: Print + Copy>(
     }
 }
 
-/// Writes the constant that an instruction names which was found as a field, if one was, and then what stands behind
+/// Writes the constant that an instruction names which was found as a field, if one was, and then what stands after
 /// it.
 fn put_named_field<W: Write, B: Print + Copy>(
     out: &mut W,
@@ -247,7 +247,7 @@ fn put_named_field<W: Write, B: Print + Copy>(
     }
 }
 
-/// The constant that is named by the instruction at an offset of code, as a field, and then what stands behind it; no
+/// The constant that is named by the instruction at an offset of code, as a field, and then what stands after it; no
 /// field where it names none, where no instruction begins there, or where the code is refused.
 #[derive(Clone, Copy)]
 pub struct NamedFields<'p, 'a, B> {
@@ -358,7 +358,7 @@ impl<'p, 'a> Lines<ExceptionHandler> for HandlerCharacters<'p, 'a> {
     }
 }
 
-/// An exception table, whose classes are in this pool, as a field, and then what stands behind it.
+/// An exception table, whose classes are in this pool, as a field, and then what stands after it.
 #[derive(Clone, Copy)]
 pub struct HandlersField<'p, 'a, B> {
     pub pool: &'p Pool<'a>,
@@ -375,7 +375,7 @@ impl<'p, 'a, B: Print + Copy> Print for HandlersField<'p, 'a, B> {
     }
 }
 
-/// The sizes of the stack and of the local variables of code, as fields, and then what stands behind them.
+/// The sizes of the stack and of the local variables of code, as fields, and then what stands after them.
 #[derive(Clone, Copy)]
 pub struct SizeFields<'p, 'a, B>(pub &'p CodeAttr<'a>, pub B);
 

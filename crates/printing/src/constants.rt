@@ -15,7 +15,7 @@ use insn::Operands;
 use pool::{Constant, Pool};
 use std::io::Write;
 
-/// The text at an index, behind a blank; nothing where there is none.
+/// The text at an index, after a blank; nothing where there is none.
 #[derive(Clone, Copy)]
 pub struct TextBehind<'p, 'a> {
     pub within: Within,
@@ -34,7 +34,7 @@ impl<'p, 'a> Print for TextBehind<'p, 'a> {
     }
 }
 
-/// The name of the class at an index, behind a blank; nothing where there is none.
+/// The name of the class at an index, after a blank; nothing where there is none.
 #[derive(Clone, Copy)]
 struct ClassBehind<'p, 'a> {
     within: Within,
@@ -53,7 +53,7 @@ impl<'p, 'a> Print for ClassBehind<'p, 'a> {
     }
 }
 
-/// The name and the descriptor of the NameAndType at an index, each behind a blank; nothing where there is none.
+/// The name and the descriptor of the NameAndType at an index, each after a blank; nothing where there is none.
 #[derive(Clone, Copy)]
 struct BothBehind<'p, 'a> {
     within: Within,
@@ -94,7 +94,7 @@ fn put_text<W: Write>(
     Then(Word(kind), Then(Index(index), text)).put(out)
 }
 
-/// Writes a kind, and a member of a class behind the indices of both.
+/// Writes a kind, and a member of a class after the indices of both.
 fn put_reference<W: Write>(
     out: &mut W,
     within: Within,
@@ -121,7 +121,7 @@ fn put_reference<W: Write>(
     Then(Word(kind), indices).put(out)
 }
 
-/// Writes a kind, the number of a bootstrap method, and a name and a descriptor behind their index.
+/// Writes a kind, the number of a bootstrap method, and a name and a descriptor after their index.
 fn put_dynamic<W: Write>(
     out: &mut W,
     within: Within,
@@ -280,7 +280,7 @@ impl<'p, 'a> Print for EntryString<'p, 'a> {
     }
 }
 
-/// The constant at an index of the constant pool as a field, if one stands there, and then what stands behind it.
+/// The constant at an index of the constant pool as a field, if one stands there, and then what stands after it.
 #[derive(Clone, Copy)]
 pub struct ConstantFields<'p, 'a, B> {
     pub pool: &'p Pool<'a>,

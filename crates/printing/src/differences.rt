@@ -111,7 +111,7 @@ impl<'a> Print for DifferenceLine<'a> {
     }
 }
 
-/// The fields of a place of one part of the frames, and then what stands behind them.
+/// The fields of a place of one part of the frames, and then what stands after them.
 #[derive(Clone, Copy)]
 struct MismatchFields<'a, B> {
     part: &'static str,
@@ -132,7 +132,7 @@ impl<'a, B: Print + Copy> Print for MismatchFields<'a, B> {
 }
 
 /// The fields of the first difference of a frame that comes from the declared one, or of the first place at which their
-/// comparison asks for a class that is missing, and then what stands behind them.
+/// comparison asks for a class that is missing, and then what stands after them.
 #[derive(Clone, Copy)]
 pub struct DifferenceFields<'a, B>(pub Difference<'a>, pub B);
 

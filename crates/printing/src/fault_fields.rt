@@ -1,4 +1,4 @@
-//! The fields of faults in objects of JSON: a number, and where it was met; and then what stands behind them.
+//! The fields of faults in objects of JSON: a number, and where it was met; and then what stands after them.
 ghost use Rattle.printing.specs.Writing.{Writes};
 ghost use Rattle.printing.specs.Json.{fields_then};
 ghost use Rattle.printing.specs.FaultFields.{at_fields, indexed_fields};

@@ -11,7 +11,7 @@ use crate::print::{Number, Print, Then, Word, WriteFailed};
 use classfile::{FilePart, Place};
 use std::io::Write;
 
-/// The kind of the constants with this tag, behind a blank; nothing where there is none.
+/// The kind of the constants with this tag, after a blank; nothing where there is none.
 fn kind_behind(tag: u8) -> &'static str
     ensures { result.now ≡ kind_behind tag }
 {
@@ -120,7 +120,7 @@ impl Print for FilePartLines {
     }
 }
 
-/// A constant as a field, and then what stands behind it; of no constant only that.
+/// A constant as a field, and then what stands after it; of no constant only that.
 #[derive(Clone, Copy)]
 struct TaggedFields<B>(Place, Option<u8>, B);
 
@@ -138,7 +138,7 @@ impl<B: Print + Copy> Print for TaggedFields<B> {
     }
 }
 
-/// The number of an attribute as a field, if there is one, and then what stands behind it.
+/// The number of an attribute as a field, if there is one, and then what stands after it.
 #[derive(Clone, Copy)]
 struct NumberedAttribute<B>(Option<usize>, B);
 
@@ -154,7 +154,7 @@ impl<B: Print + Copy> Print for NumberedAttribute<B> {
 }
 
 /// The part of a file in which a fault of its bytes lies, if there is one, as fields of an object of JSON, and then
-/// what stands behind them.
+/// what stands after them.
 #[derive(Clone, Copy)]
 pub struct FilePartFields<B>(pub Option<FilePart>, pub B);
 

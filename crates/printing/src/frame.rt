@@ -89,7 +89,7 @@ impl<'a> Print for TypeText<'a> {
     }
 }
 
-/// Types behind the first one, each behind a comma.
+/// Types after the first one, each after a comma.
 #[derive(Clone, Copy)]
 struct More;
 
@@ -101,7 +101,7 @@ impl<'a> Lines<VType<'a>> for More {
     }
 }
 
-/// Types behind a blank, with commas between them.
+/// Types after a blank, with commas between them.
 #[derive(Clone, Copy)]
 struct Types<'t, 'a>(&'t [VType<'a>]);
 
@@ -226,7 +226,7 @@ impl<'a> Lines<VType<'a>> for TypeCharacters {
     }
 }
 
-/// The field of the flag, where it stands, and then what stands behind it.
+/// The field of the flag, where it stands, and then what stands after it.
 #[derive(Clone, Copy)]
 struct FlagFields<B> {
     name: &'static str,
@@ -247,7 +247,7 @@ impl<B: Print + Copy> Print for FlagFields<B> {
     }
 }
 
-/// A frame as fields of these names, and then what stands behind them: its locals without the tops behind the last that
+/// A frame as fields of these names, and then what stands after them: its locals without the tops after the last that
 /// is none, its stack from the bottom up, and flagThisUninit where it has the flag.
 #[derive(Clone, Copy)]
 pub struct FrameFields<'f, 'a, B> {

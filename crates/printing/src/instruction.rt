@@ -11,7 +11,7 @@ use insn::{Insn, LookupSwitch, Opcode, Operands, Pairs, TableSwitch, Targets, mn
 use itoa::{Integer, write_digits};
 use std::io::Write;
 
-/// A number behind a blank.
+/// A number after a blank.
 #[derive(Clone, Copy)]
 pub struct Value<I>(pub I);
 
@@ -137,7 +137,7 @@ pub struct Located<'a> {
 }
 
 impl<'a> Located<'a> {
-    /// `wide` where it modifies the opcode behind it.
+    /// `wide` where it modifies the opcode after it.
     fn wide(&self) -> Word<'static>
         ensures { result.0.now ≡ wide_text (operands_view self.now.insn.operands) }
     {
@@ -213,7 +213,7 @@ impl<'a> Located<'a> {
     }
 }
 
-/// The operands of an instruction, behind its name.
+/// The operands of an instruction, after its name.
 #[derive(Clone, Copy)]
 struct OperandsOf<'a>(Located<'a>);
 
@@ -275,7 +275,7 @@ const EMPTY_LINE: [u8; 48] =
 /// Where a name begins.
 const NAME: usize = 23;
 
-/// Writes the offset of an instruction with the blanks around it, a short name behind it and, if the line ends there,
+/// Writes the offset of an instruction with the blanks around it, a short name after it and, if the line ends there,
 /// its end, all at once.
 #[inline(always)]
 fn put_beginning<W: Write>(

@@ -184,7 +184,7 @@ impl<'t, T: Copy, L: Lines<T>> Print for Line<'t, L, T> {
     }
 }
 
-/// Strings behind the first one of an array, each behind a comma.
+/// Strings after the first one of an array, each after a comma.
 #[derive(Clone, Copy)]
 struct Following<L>(L);
 
@@ -196,7 +196,7 @@ impl<T: Copy, L: Lines<T> + Copy> Lines<T> for Following<L> {
     }
 }
 
-/// The strings of these items, each behind a comma.
+/// The strings of these items, each after a comma.
 #[derive(Clone, Copy)]
 struct Others<'t, L, T>(L, &'t [T]);
 
@@ -239,7 +239,7 @@ impl<'a, V: Print + Copy> Print for Field<'a, V> {
     }
 }
 
-/// An object on a line: the name and the value of its first field, and then its fields behind this one, up to the
+/// An object on a line: the name and the value of its first field, and then its fields after this one, up to the
 /// line's end.
 #[derive(Clone, Copy)]
 pub struct Object<'a, V, B>(pub &'a str, pub V, pub B);
@@ -252,7 +252,7 @@ impl<'a, V: Print + Copy, B: Print + Copy> Print for Object<'a, V, B> {
     }
 }
 
-/// A field behind another, by its name and its value, and then what stands behind it, up to the line's end.
+/// A field after another, by its name and its value, and then what stands after it, up to the line's end.
 #[derive(Clone, Copy)]
 pub struct More<'a, V, B>(pub &'a str, pub V, pub B);
 

@@ -5,7 +5,7 @@
 //! writing it writes exactly that, or a beginning of it where a write fails. The calls to know are
 //! [`Listing`], the lines of a class file, and the pieces in `print`.
 //!
-//! - `print` has the trait [`Print`], words, numbers, one text behind another, and lines of a list
+//! - `print` has the trait [`Print`], words, numbers, one text after another, and lines of a list
 //! - `name` writes flags in hexadecimal digits, names with escapes, and texts of the constant pool
 //! - `runs` writes the units of a name that stand as they are in runs
 //! - `names_in` writes a name as it stands in a line of words, or in a string of JSON

@@ -14,7 +14,7 @@ use classfile::{ClassFile, Member};
 use pool::Pool;
 use std::io::Write;
 
-/// The line of a field or a method, behind the word for it.
+/// The line of a field or a method, after the word for it.
 #[derive(Clone, Copy)]
 pub struct MemberLine<'p, 'a> {
     pub kind: &'static str,
@@ -159,7 +159,7 @@ impl<'p, 'a> Print for Interfaces<'p, 'a> {
 }
 
 /// The lines of a class file: the class with its version and flags, its superclass, interfaces, the components of a
-/// record and the classes that a sealed class permits, fields and methods, and behind each method that has code the
+/// record and the classes that a sealed class permits, fields and methods, and after each method that has code the
 /// lines of this code.
 #[derive(Clone, Copy)]
 pub struct Listing<'c, 'a>(pub &'c ClassFile<'a>);

@@ -104,7 +104,7 @@ impl<'c, 'a> Print for AttributeLine<'c, 'a> {
     }
 }
 
-/// A field or a method as fields of an object of JSON, and then what stands behind them.
+/// A field or a method as fields of an object of JSON, and then what stands after them.
 #[derive(Clone, Copy)]
 struct MemberFields<'p, 'a, B> {
     pool: &'p Pool<'a>,
@@ -132,7 +132,7 @@ impl<'p, 'a, B: Print + Copy> Print for MemberFields<'p, 'a, B> {
     }
 }
 
-/// Writes the field or method of this number as fields, if there is one, and then what stands behind them.
+/// Writes the field or method of this number as fields, if there is one, and then what stands after them.
 fn put_member_fields<'p, 'a, W: Write, B: Print + Copy>(
     out: &mut W,
     pool: &'p Pool<'a>,
@@ -155,7 +155,7 @@ fn put_member_fields<'p, 'a, W: Write, B: Print + Copy>(
     }
 }
 
-/// The name of the superclass as a field, if there is one, and then what stands behind it.
+/// The name of the superclass as a field, if there is one, and then what stands after it.
 #[derive(Clone, Copy)]
 struct SuperFields<'c, 'a, B>(ClassName<'c, 'a>, B);
 
@@ -172,7 +172,7 @@ impl<'c, 'a, B: Print + Copy> Print for SuperFields<'c, 'a, B> {
     }
 }
 
-/// The class itself as fields: its name, its version, its flags and its superclass; and then what stands behind them.
+/// The class itself as fields: its name, its version, its flags and its superclass; and then what stands after them.
 #[derive(Clone, Copy)]
 struct ClassFields<'c, 'a, B>(&'c ClassFile<'a>, B);
 
@@ -199,7 +199,7 @@ impl<'c, 'a, B: Print + Copy> Print for ClassFields<'c, 'a, B> {
     }
 }
 
-/// The part of a class file at a place as fields of an object of JSON, and then what stands behind them. They say what
+/// The part of a class file at a place as fields of an object of JSON, and then what stands after them. They say what
 /// the [`PartLines`] say.
 #[derive(Clone, Copy)]
 pub struct PartFields<'c, 'a, B> {
@@ -229,7 +229,7 @@ impl<'c, 'a, B: Print + Copy> Print for PartFields<'c, 'a, B> {
     }
 }
 
-/// Writes the attribute of this number as fields, if there is one, and then what stands behind them.
+/// Writes the attribute of this number as fields, if there is one, and then what stands after them.
 fn put_attribute_fields<W: Write, B: Print + Copy>(
     out: &mut W,
     class: &ClassFile<'_>,
@@ -252,7 +252,7 @@ fn put_attribute_fields<W: Write, B: Print + Copy>(
 }
 
 /// The attribute that breaks the rule at a place of a class file as fields of an object of JSON, if one does, and then
-/// what stands behind them. They say what the [`AttributeLine`] says.
+/// what stands after them. They say what the [`AttributeLine`] says.
 #[derive(Clone, Copy)]
 pub struct AttributeFields<'c, 'a, B> {
     pub class: &'c ClassFile<'a>,

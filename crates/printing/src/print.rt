@@ -66,7 +66,7 @@ impl<'a> Print for Word<'a> {
     }
 }
 
-/// A number in decimal digits, behind `-` where it is negative.
+/// A number in decimal digits, after `-` where it is negative.
 #[derive(Clone, Copy)]
 pub struct Number<I>(pub I);
 
@@ -104,7 +104,7 @@ pub trait Lines<T> {
         ensures { Writes (W.contents out.old) (W.contents out.new) (line self.now item.now) result };
 }
 
-/// Writes the lines of the items, one behind the other.
+/// Writes the lines of the items, one after the other.
 pub fn put_lines<T, L: Lines<T>, W: Write>(
     lines: &L,
     items: &[T],

@@ -26,7 +26,7 @@ fn misses(alloc: Global, words: &[&str]) -> bool {
     }
 }
 
-/// Each command with the files behind it, of which one looks like an option.
+/// Each command with the files after it, of which one looks like an option.
 #[test]
 fn lines(rt: HostRuntime) {
     let alloc = rt.alloc();

@@ -218,7 +218,7 @@ fn creations(rt: HostRuntime) {
     assert!(rt; is_initialized(alloc));
 }
 
-/// Whether the object is ready behind its constructor.
+/// Whether the object is ready after its constructor.
 fn is_initialized(alloc: Global) -> bool {
     let bytes = naming([0xB7, 0, 18, 0, 0]);
     match stepped(alloc, &bytes, &[MADE], None) {

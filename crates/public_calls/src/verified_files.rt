@@ -11,7 +11,7 @@ use verify::{
 /// How many methods or classes there is an answer on; or which file is refused, 0 where none is told, and the number.
 type Told = Result<usize, (usize, u8)>;
 
-/// A file that could not be read behind its first three bytes.
+/// A file that could not be read after its first three bytes.
 pub const UNREAD: FileRead<'static> = FileRead::Unread(ReadFault::ReadFailed { at: 3 });
 
 /// K as a class that is final and abstract.

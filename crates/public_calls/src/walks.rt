@@ -179,7 +179,7 @@ fn goes(alloc: Global, bytes: &[u8], count: usize) -> Walk {
     }
 }
 
-/// `return` ends the method; choices behind that are not looked at, and without a choice nothing is done.
+/// `return` ends the method; choices after that are not looked at, and without a choice nothing is done.
 #[test]
 fn walks_that_end(rt: HostRuntime) {
     let alloc = rt.alloc();
@@ -191,7 +191,7 @@ fn walks_that_end(rt: HostRuntime) {
     assert!(rt; goes(alloc, &two, 2) == Ok((2, Stop::Ended)));
 }
 
-/// `pop` of nothing is a fault, behind `nop` too; where a choice is none, it is not counted.
+/// `pop` of nothing is a fault, after `nop` too; where a choice is none, it is not counted.
 #[test]
 fn walks_that_stop(rt: HostRuntime) {
     let alloc = rt.alloc();

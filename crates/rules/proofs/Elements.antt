@@ -1,7 +1,7 @@
 -- Elements of arrays, and the sizes of their dimensions.
 use Rattle.std.proofs.Common.{◌≡◌, ℕ, zero, suc, ◌-◌, List, [], ◌∷◌, ◌++◌, take, map, refl, ◌∙◌, ap, arith}
 use Rattle.std.specs.Prelude.{replicate}
-use Rattle.insn.specs.declared.operation.Kind.TheVariants.{Int}
+use Rattle.insn.specs.declared.kinds.Kind.TheVariants.{Int}
 use Rattle.rules.specs.declared.expected.ExpectedType.{ExpectedType}
 use Rattle.rules.specs.declared.expected.ExpectedType.TheVariants.{Number}
 use Rattle.rules.specs.TypingRules.{number, sizes}

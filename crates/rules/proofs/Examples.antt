@@ -8,8 +8,8 @@ use Rattle.names.specs.Reading.{read_class, read_base, read_field, read_params, 
 use Rattle.classfile.specs.Bootstraps.{BootstrapMethod, are_arguments, is_sound, has_bootstrap}
 use Rattle.classfile.specs.Methods.{Method}
 use Rattle.hierarchy.specs.Class.{ClassFact}
-use Rattle.insn.specs.declared.operation.Kind.TheVariants as kinds
-use Rattle.insn.specs.declared.operation.NumericOperator.TheVariants as numerics
+use Rattle.insn.specs.declared.kinds.Kind.TheVariants as kinds
+use Rattle.insn.specs.declared.operators.NumericOperator.TheVariants as numerics
 use Rattle.insn.specs.declared.stack.StackOperator.TheVariants as stacks
 use Rattle.insn.specs.Meanings as acts
 use Rattle.insn.specs.Meanings.{Act}

@@ -10,7 +10,7 @@ use Rattle.pool.specs.ConstantViews.{field_constant_view, method_constant_view, 
 use Rattle.classfile.specs.Methods.{Method}
 use Rattle.insn.specs.Meanings as acts
 use Rattle.insn.specs.Views.{act_view}
-use Rattle.insn.specs.declared.operation.Act.{Act}
+use Rattle.insn.specs.declared.acts.Act.{Act}
 use Rattle.rules.specs.declared.naming.Named.{Named}
 use Rattle.rules.specs.Naming.{IsNamed, class_index, field_index, method_index, site_index, names_bootstrapped, kept_class, kept_field, kept_method, kept_site, kept_bootstrapped}
 

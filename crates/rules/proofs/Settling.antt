@@ -8,7 +8,7 @@ use Rattle.hierarchy.specs.declared.answer.Answer.{Answer}
 use Rattle.hierarchy.specs.declared.answer.Answer.TheVariants.{Yes, No, Missing}
 use Rattle.hierarchy.specs.Class.{ClassFact}
 use Rattle.hierarchy.specs.Answer.{Outcome, yes, no, missing, outcome_of}
-use Rattle.insn.specs.declared.operation.Act as program
+use Rattle.insn.specs.declared.acts.Act as program
 use Rattle.insn.specs.Meanings.{Act}
 use Rattle.insn.specs.Views.{act_view}
 use Rattle.insn.specs.Operators.{StackForm}

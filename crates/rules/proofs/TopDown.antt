@@ -20,7 +20,7 @@ top_on xs n d e =
     ∙ ap reverse (map-append type_of (take n xs) (get_or xs n d ∷ []))
     ∙ reverse-append (map type_of (take n xs)) (type_of (get_or xs n d) ∷ [])
 
--- all behind the first one
+-- all after the first one
 others_left : (e : RawExpectedType) (es : List RawExpectedType) → take (length (e ∷ es) - 1) es ≡ es
 others_left e es = take_all (length (e ∷ es) - 1) es (omega arith)
 

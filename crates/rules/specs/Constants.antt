@@ -13,7 +13,7 @@ use Rattle.pool.specs.ConstantMeanings.{FieldConstant, MethodConstant, CallSite}
 use Rattle.classfile.specs.Bootstraps.{has_bootstrap}
 use Rattle.classfile.specs.Methods.{Method, is_own_field}
 use Rattle.classfile.specs.Naming.{begins_with}
-use Rattle.insn.specs.declared.operation.Kind.TheVariants as kinds
+use Rattle.insn.specs.declared.kinds.Kind.TheVariants as kinds
 use Rattle.insn.specs.Meanings.{Act}
 use Rattle.frames.specs.VerificationType.{int, float, long, double, class, array}
 use Rattle.frames.specs.Slots.{to_reference, descriptor_type}

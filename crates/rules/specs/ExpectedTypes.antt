@@ -1,7 +1,7 @@
 -- The expected types of all that an instruction takes: of its operands, of the object that a constructor is called on,
 -- and of a local variable; and how many units of the stack it moves (JVMS 4.10.1.9).
 use Rattle.std.specs.Prelude.{ℕ, List, [], ◌∷◌, map, Option, Some, None, option_map}
-use Rattle.insn.specs.declared.operation.Kind.TheVariants as kinds
+use Rattle.insn.specs.declared.kinds.Kind.TheVariants as kinds
 use Rattle.insn.specs.OperandStacks.{units_taken}
 use Rattle.rules.specs.TypingRules.{ExpectedType, number, TypingRule, pops, loads, stores, counts, rearranges, loads_element, makes, constructs, calls_special, returns, refuses}
 use Rattle.rules.specs.Table.{object_array}

@@ -4,7 +4,7 @@ use Rattle.classfile.specs.Methods.{Method}
 use Rattle.hierarchy.specs.Class.{ClassFact}
 use Rattle.hierarchy.specs.Answer.{Outcome}
 use Rattle.names.specs.Descriptors.{FieldDescriptor, primitive}
-use Rattle.insn.specs.declared.operation.Kind.{Kind}
+use Rattle.insn.specs.declared.kinds.Kind.{Kind}
 use Rattle.insn.specs.Meanings.{Act}
 use Rattle.insn.specs.Kinds.{computed_as}
 use Rattle.insn.specs.OperandStacks.{beneath}

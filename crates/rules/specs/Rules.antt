@@ -5,7 +5,7 @@ use Rattle.names.specs.Descriptors.{primitive}
 use Rattle.classfile.specs.Methods.{Method, is_name}
 use Rattle.hierarchy.specs.Class.{ClassFact}
 use Rattle.hierarchy.specs.Answer.{Outcome, yes, yes_if}
-use Rattle.insn.specs.declared.operation.Kind.TheVariants as kinds
+use Rattle.insn.specs.declared.kinds.Kind.TheVariants as kinds
 use Rattle.insn.specs.Operators.{takes_array}
 use Rattle.insn.specs.OperandStacks.{beneath, units_taken}
 use Rattle.insn.specs.Meanings.{Act}

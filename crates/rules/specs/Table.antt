@@ -5,8 +5,8 @@ use Rattle.names.specs.ReferenceTypes.{class_type, array_type}
 use Rattle.names.specs.StandardNames.{object_name, throwable_name}
 use Rattle.pool.specs.ConstantMeanings.{constant_at, class_at, field_at, method_at, dynamic_type_at, call_site_at}
 use Rattle.classfile.specs.Methods.{Method}
-use Rattle.insn.specs.declared.operation.Kind.{Kind}
-use Rattle.insn.specs.declared.operation.Kind.TheVariants as kinds
+use Rattle.insn.specs.declared.kinds.Kind.{Kind}
+use Rattle.insn.specs.declared.kinds.Kind.TheVariants as kinds
 use Rattle.insn.specs.Kinds.{kind_units, computed_as, same_kind}
 use Rattle.insn.specs.Operators.{numeric_row, stack_forms}
 use Rattle.insn.specs.Offsets.{at_offset}

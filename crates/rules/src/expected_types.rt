@@ -5,7 +5,7 @@ ghost use Rattle.names.specs.References.{reference_view};
 ghost use Rattle.pool.specs.ConstantViews.{field_constant_view, method_constant_view, call_site_view};
 ghost use Rattle.insn.specs.Operators.{numeric_row, stack_forms};
 ghost use Rattle.insn.specs.OperandStacks.{units_taken};
-ghost use Rattle.insn.specs.declared.operation.Kind.TheVariants.{Int};
+ghost use Rattle.insn.specs.declared.kinds.Kind.TheVariants.{Int};
 ghost use Rattle.rules.specs.TypingRules.{arguments_on, number, numbers};
 ghost use Rattle.rules.specs.Table.{return_number, return_reference};
 ghost use Rattle.rules.specs.Constants.{put_static, get_field, put_field, invoke_static, invoke_virtual, invoke_interface, invoke_special, constructor_call, special_call, dynamic_call, invoke_dynamic, new_array, new_reference_array, new_multi_array, check_cast};

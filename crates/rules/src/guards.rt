@@ -169,7 +169,7 @@ impl<'a> References<'a> {
         }
     }
 
-    // Puts a reference behind all others, and returns its number.
+    // Puts a reference after all others, and returns its number.
     fn add(
         &mut self,
         _pool: &Pool<'_>,

@@ -100,7 +100,7 @@ same_either_way a b = by (bytes_eq a b) (bytes_eq b a) refl refl
     by true false e f = absurd (true≢false (sym ((bytes_eq-Decides b a).1 (sym ((bytes_eq-Decides a b).0 e))) ∙ f))
     by false true e f = absurd (true≢false (sym ((bytes_eq-Decides a b).1 (sym ((bytes_eq-Decides b a).0 f))) ∙ e))
 
--- a name that is not among others is pushed behind them
+-- a name that is not among others is pushed after them
 pub name_pushed : (names : List (List ℕ)) (name : List ℕ) → position (bytes_eq name) names ≡ None
     → (other : List ℕ) → position (bytes_eq other) (names ++ name ∷ []) ≡ cond (bytes_eq name other) (Some (length names)) (position (bytes_eq other) names)
 name_pushed names name none other =

@@ -82,7 +82,7 @@ reading_on old new more row later on m Unread h = tt
 reading_on old new more row later on m Nothing h = types_of_on old new more row later on None m h
 reading_on old new more row later on m (Types x) h = types_of_on old new more row later on (Some x) m h
 
--- ---- numbers pushed behind a row
+-- ---- numbers pushed after a row
 
 numbers_more : (s : Numbering) (ns : List ℕ) (ts : List VerificationType) (n : ℕ) (t : VerificationType) → AreNumbers s ns ts → IsNumber s n t → AreNumbers s (ns ++ n ∷ []) (ts ++ t ∷ [])
 numbers_more s [] [] n t h k = (k, tt)

@@ -1,4 +1,4 @@
--- The type that a number stands for, by its tag, its dimensions and the two bytes behind them; so each row of numbers
+-- The type that a number stands for, by its tag, its dimensions and the two bytes after them; so each row of numbers
 -- is one of types.
 use Rattle.std.specs.Prelude.{ℕ, zero, suc, ◌+◌, ◌-◌, ◌*◌, ◌/◌, ◌%◌, nat_eq, if◌then◌else◌, List, map, Option, Some, None, slice_get}
 use Rattle.names.specs.declared.base.Primitive.{Primitive}

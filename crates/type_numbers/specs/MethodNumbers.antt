@@ -45,7 +45,7 @@ method_in pool index = option_and_then (λ text. found (method_answer false text
 abbrev pub row_of : DescriptorNumbers → List ℕ
 row_of d = d.arguments.items
 
--- a row goes on behind another
+-- a row goes on after another
 abbrev pub GoesOn : List ℕ → List ℕ → Type 0
 GoesOn old new = (more : List ℕ) × (new ≡ old ++ more)
 

@@ -49,7 +49,7 @@ pub struct DescriptorNumbers {
     arguments: Vec<u32>,
 }
 
-/// Puts the numbers of the types of parameters behind a row.
+/// Puts the numbers of the types of parameters after a row.
 fn push_numbers<'a, C: Classes>(
     row: &mut Vec<u32>,
     parameters: &[FieldType<'a>],
@@ -107,7 +107,7 @@ impl DescriptorNumbers {
         })
     }
 
-    /// The numbers of the types of a method, its arguments behind those of all others.
+    /// The numbers of the types of a method, its arguments after those of all others.
     fn add<'a, C: Classes>(
         &mut self,
         method: &MethodType<'a>,

@@ -13,7 +13,7 @@ pub struct RecentPlaces<'n> {
     slots: [Option<(&'n [u8], u16)>; COUNT],
 }
 
-/// The byte at a place of a name, or 0 behind its end.
+/// The byte at a place of a name, or 0 after its end.
 fn byte_at(name: &[u8], place: usize) -> usize
     ensures { result < 256 }
 {

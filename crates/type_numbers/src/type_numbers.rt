@@ -15,7 +15,7 @@ use std::marker::Model;
 /// and equal types are equal numbers.
 ///
 /// A type whose class is in the hierarchy has the number that [`pack`](frames::pack) gives it. An absent class has a
-/// number behind those, by the order in which names are first met, and so have the arrays of it. There are numbers for
+/// number after those, by the order in which names are first met, and so have the arrays of it. There are numbers for
 /// 16,056,320 absent classes; past these, memory is said to run out. Constants cannot name so many: the text of a
 /// descriptor and the constant that leads to it are two of at most 65,534, and it names 256 classes at most.
 #[derive(Drop)]

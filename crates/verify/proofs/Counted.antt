@@ -11,7 +11,7 @@ use Rattle.verify.specs.declared.report.MethodVerdict.{MethodVerdict}
 use Rattle.verify.specs.Coming.{FramesFact, frames_view, frames_size, size_before, IsFramedIf, AreFramed}
 use Rattle.verify.specs.Explaining.{AreFramedIf}
 
--- one more behind them
+-- one more after them
 pub size_with : (xs : List FramesAt) (x : FramesAt) → size_before (xs ++ x ∷ []) (suc (length xs)) ≡ size_before xs (length xs) + frames_size (frames_view x)
 size_with [] x = omega arith
 size_with (y ∷ xs) x =

@@ -1,4 +1,4 @@
--- Files that are classes, one behind the other, and the answers on them.
+-- Files that are classes, one after the other, and the answers on them.
 use Rattle.std.proofs.Common.{◌≡◌, ℕ, Bool, true, false, zero, suc, ◌<◌, List, [], ◌∷◌, ◌++◌, map, take, Some, None, Result, Ok, Err, subst, arith}
 use Rattle.classfile.specs.declared.profile.Profile.{Profile}
 use Rattle.classfile.specs.CodeMethods.{judged}

@@ -6,7 +6,7 @@ use Rattle.classfile.specs.Methods.{Method}
 use Rattle.hierarchy.specs.Class.{ClassFact}
 use Rattle.layout.specs.Place.{Place}
 use Rattle.insn.specs.Instructions.{Instruction}
-use Rattle.insn.specs.declared.operation.Act as program
+use Rattle.insn.specs.declared.acts.Act as program
 use Rattle.insn.specs.Code.{StepsBy}
 use Rattle.insn.specs.Meanings.{Act}
 use Rattle.insn.specs.Offsets.{at_offset, first_offset, acts, by_act}

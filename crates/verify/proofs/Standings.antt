@@ -79,7 +79,7 @@ module _ (classes : List ClassFact) where
           ap (λ o. class_at classes (option_and_then (λ (p : Option ℕ). p) o)) at ∙ kept_next c ∙ sym (and_same (next classes c));
     }
 
-  -- behind a table the same table once more
+  -- after a table the same table once more
   twice_after : (table : List (Option ℕ)) (i : ℕ) → place_after (map (place_after table) table) (Some i) ≡ place_after table (place_after table (Some i))
   twice_after table i = ap (option_and_then (λ (p : Option ℕ). p)) (slice_get-map (place_after table) table i) ∙ by (slice_get table i)
     where

@@ -155,7 +155,7 @@ pub record BreaksInstruction (typing_rule : TypingRules) (classes : List ClassFa
   pub broken : IsLeast (Breaks classes m frames at reached.act (typing_rule m reached.act) (next_offset m.code at)
       (reached.table at)) why
 
--- the frame there, behind an instruction up to which the method is type-safe and that meets each other condition
+-- the frame there, after an instruction up to which the method is type-safe and that meets each other condition
 pub record BreaksArrival (typing_rule : TypingRules) (classes : List ClassFact) (m : Method Act) (frames : Frames)
     (at : ℕ) (why : Reason) : Type 0 where
   pub before : ℕ

@@ -155,12 +155,12 @@ abbrev pub with_answer : Option Value → List Value → List Value
 with_answer None below = below
 with_answer (Some v) below = v ∷ below
 
--- behind a call of a method that is not a constructor: the answer is on what was beneath the values
+-- after a call of a method that is not a constructor: the answer is on what was beneath the values
 pub record IsAnswered (a : Activation) (below : List Value) (answer : Option Value) (b : Activation) : Type 0 where
   pub stack : b.stack ≡ with_answer answer below
   pub objects : (address : ℕ) → b.status address ≡ a.status address
 
--- behind a call of a constructor: its object is ready
+-- after a call of a constructor: its object is ready
 pub record IsConstructed (a : Activation) (values below : List Value) (b : Activation) : Type 0 where
   pub stack : b.stack ≡ below
   pub own : (address : ℕ) → IsOn address values → b.status address ≡ ready

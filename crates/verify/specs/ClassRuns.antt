@@ -158,7 +158,7 @@ abbrev pub taken : Bool → Option Value → Option Value
 taken true answer = None
 taken false answer = answer
 
--- the caller behind its call
+-- the caller after its call
 abbrev pub resumed : Activation → Bool → List Value → List Value → Option Value → ℕ → Activation
 resumed a constructs receiver below answer to = record {
   method = a.method;
@@ -168,7 +168,7 @@ resumed a constructs receiver below answer to = record {
   status = status_after constructs receiver a.status;
 }
 
--- The caller goes on behind its call. The answer is ready for it, and need not fit.
+-- The caller goes on after its call. The answer is ready for it, and need not fit.
 pub record GoesOn (types : Types) (a : Activation) (answer : Option Value) (b : Activation) : Type 0 where
   pub call : IsCall a
   pub to : ℕ

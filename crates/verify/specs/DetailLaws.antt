@@ -42,7 +42,7 @@ DetailsAreTold =
 
 -- ---- of a stack map that is refused
 
--- its fault is in none of its entries: their number is cut, or bytes stand behind the last one
+-- its fault is in none of its entries: their number is cut, or bytes stand after the last one
 abbrev pub IsInNoEntry : Method Act → Type 0
 IsInNoEntry m =
     (body : List ℕ) × (m.stack_map ≡ Some body)

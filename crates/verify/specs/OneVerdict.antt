@@ -11,7 +11,7 @@ use Rattle.verify.specs.Reports.{IsReport}
 use Rattle.verify.specs.declared.frames_at.FramesAt.{FramesAt}
 use Rattle.verify.specs.Coming.{frames_view, AreFramed}
 
--- two verdicts say the same: of refusals the offset, the number, the missing class by its name, and the fault behind 78
+-- two verdicts say the same: of refusals the offset, the number, the missing class by its name, and the fault after 78
 -- and 79
 abbrev pub AreSameVerdict : Verdict → Verdict → Type 0
 AreSameVerdict Verified Verified = Unit {0}

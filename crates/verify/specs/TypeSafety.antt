@@ -83,7 +83,7 @@ pub record IsTypeSafeAt (classes : List ClassFact) (m : Method Act) (frames : Fr
       → LeadsToTarget classes frames (after m at p (table at)) target
   pub next : falls p ≡ true → (to : ℕ) × (next_offset m.code at ≡ Some to)
       × Comes classes frames table (after m at p (table at)) to
-  -- behind an instruction that does not fall through a frame is declared
+  -- after an instruction that does not fall through a frame is declared
   pub alone : falls p ≡ false → (to : ℕ) → next_offset m.code at ≡ Some to → (f : FrameFact)
       × (at_offset frames to ≡ Some f)
   pub handled : (e : ExceptionEntry) → IsAmong e m.exceptions → covers e at ≡ true

@@ -29,7 +29,7 @@ pub struct Explained<'a> {
     /// The verdicts.
     pub report: Report<'a>,
     /// The frames of each method, in the order of the file. A method that is not refused has none, and neither has one
-    /// behind frames of 65,536 types.
+    /// after frames of 65,536 types.
     pub frames: Vec<FramesAt<'a>>,
 }
 

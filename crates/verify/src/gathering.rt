@@ -29,7 +29,7 @@ impl<'a> Gathered<'a> {
         }
     }
 
-    /// Puts a class behind the others, unless one has its name.
+    /// Puts a class after the others, unless one has its name.
     fn add(&mut self, class: Summary<'a>) -> Result<(), AllocError>
         requires placed { ArePlaced (facts_of self.old.classes.items) self.old.places }
         ensures added { OnOk result (facts_of self.new.classes.items

@@ -109,7 +109,7 @@ fn judge<'a, C: Classes>(
 }
 
 /// The answers about these files by a profile, in a hierarchy. The places of the hierarchy's classes that one of them
-/// names are kept for those behind it.
+/// names are kept for those after it.
 fn judge_all<'a, C: Classes>(
     alloc: Global,
     profile: Profile,

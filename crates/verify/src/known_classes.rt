@@ -57,7 +57,7 @@ fn known_refused<'a>(number: usize, fault: FileFault) -> AmongFault<'a>
     }
 }
 
-/// Puts the summaries of the classes in these files behind the summaries that are there; or returns the first file that
+/// Puts the summaries of the classes in these files after the summaries that are there; or returns the first file that
 /// is refused.
 fn add_known<'a>(
     alloc: Global,

@@ -74,7 +74,7 @@ pub fn details_are_told()
 {}
 
 /// Where a stack map is refused, it is told which entry is at fault, but where the number of the entries is cut, or
-/// bytes stand behind the last one.
+/// bytes stand after the last one.
 pub fn map_details_are_told()
     ensures { MapDetailsAreTold }
 {}

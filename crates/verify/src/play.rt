@@ -175,7 +175,7 @@ fn judge<'a, C: Classes>(
 }
 
 /// The reports on classes in play, judged in turn; or why there are none, with the verdict on a method that is refused.
-/// The places of the hierarchy's classes that one of them names are kept for those behind it.
+/// The places of the hierarchy's classes that one of them names are kept for those after it.
 fn reports_in_turn<'a, C: Classes>(
     alloc: Global,
     play: &[Formed<'_, 'a>],

@@ -38,7 +38,7 @@ pub record IsArena (ns : List Node) (own root kept count : ℕ) (declared : List
   pub rows : (i : ℕ) → i < length declared → (slice_index declared i < own)
       × (level_of ns (slice_index declared i) ≡ level_of ns root)
   pub keeps : (kept < own) × (level_of ns kept ≡ level_of ns root)
-  -- slots behind the last hold Top
+  -- slots after the last hold Top
   pub rest : (slot : ℕ) → count ≤ slot → slot < width (level_of ns root) → number_at ns (level_of ns root) root slot ≡ 0
   pub rests : (i slot : ℕ) → i < length declared → count ≤ slot → slot < width (level_of ns root)
       → number_at ns (level_of ns root) (slice_index declared i) slot ≡ 0

@@ -55,7 +55,7 @@ pub record IsTree (ns : List Node) (own : ℕ) : Type 0 where
 abbrev pub IsLoose : List Node → ℕ → Type 0
 IsLoose ns id = (p q : ℕ) → p < length ns → q < 16 → 0 < level_of ns p → below ns p q ≢ id
 
--- a node was put behind the others: what another holds, and nothing is known of it
+-- a node was put after the others: what another holds, and nothing is known of it
 pub record IsCopy (old new : List Node) (id copy : ℕ) : Type 0 where
   pub last : copy ≡ length old
   pub pushed : new ≡ old ++ record (node_at old id) { seen = None } ∷ []

@@ -28,13 +28,13 @@ abbrev pub WereMet : List Entry → List Member → DuplicateFinder → Type 0
 WereMet pool members (Few marks) = AreMarked pool members marks
 WereMet pool members (Many keys) = AreSeen pool members keys
 
--- a member was met, behind few others
+-- a member was met, after few others
 pub record MeetsMarked (pool : List Entry) (earlier : List Member) (m : Member) (marks : List Bool)
     (repeated : Bool) : Type 0 where
   pub repeats : repeated ≡ is_repeated pool earlier m
   pub met : AreMarked pool (earlier ++ m ∷ []) marks
 
--- a member was met, behind others
+-- a member was met, after others
 pub record MeetsNext (pool : List Entry) (earlier : List Member) (m : Member) (new : DuplicateFinder)
     (repeated : Bool) : Type 0 where
   pub repeats : repeated ≡ is_repeated pool earlier m

@@ -18,7 +18,7 @@ abbrev pub AreSoundTexts : List Entry → Member → Option NameAndType → Type
 AreSoundTexts pool m None = member_has_bad pool m || member_has_other pool m ≡ true
 AreSoundTexts pool m (Some x) = (member_has_bad pool m || member_has_other pool m ≡ false) × HasTexts pool m x
 
--- the conditions of a method that come behind those of its indices
+-- the conditions of a method that come after those of its indices
 abbrev pub named_method_conditions : List Entry → Bool → Bool → Member → List Condition
 named_method_conditions pool interface repeated m =
     (BadName, is_bad_method_name pool interface m.name)

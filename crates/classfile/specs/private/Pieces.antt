@@ -39,7 +39,7 @@ body_pieces test layout_of p (of_numbers name n) =
     marked (not (test name) && is_laid_out (layout_of name) n) (plain n.body ∷ [])
 body_pieces test layout_of p (raw name body) = marked (not (test name) && has_none (layout_of name)) (plain body ∷ [])
 
--- an attribute: its name index, and its body behind a length
+-- an attribute: its name index, and its body after a length
 abbrev pub headed_pieces : {A : Type 0} → (ℕ → Bool) → (ℕ → Option AttributeLayout) → (A → List Piece) → AttributeOf A
     → List Piece
 headed_pieces test layout_of p x = field 2 (name_of x) ++ lengthened (body_pieces test layout_of p x)
@@ -344,7 +344,7 @@ marked_version : (major : ℕ) (b : Bool) → ArePlain (marked b (field 2 major)
 marked_version major true h = (refl, h)
 marked_version major false h = absurd h
 
--- the two numbers behind the magic one
+-- the two numbers after the magic one
 made_numbers : Made {A = ℕ × ℕ}
     (andthen (number 2) (λ minor. andthen (number 2) (λ major. by_version (is_version minor major) minor major)))
     (λ v. v) (λ v. field 2 v.0 ++ marked (is_version v.0 v.1) (field 2 v.1))

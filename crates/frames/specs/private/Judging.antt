@@ -1,4 +1,4 @@
--- How entries are judged one by one, behind those before them.
+-- How entries are judged one by one, after those before them.
 use Rattle.std.specs.Prelude.{◌≡◌, ℕ, zero, suc, Bool, List, [], ◌∷◌, Option, Some, None, Result, Ok, Err}
 use Rattle.pool.specs.Entries.{Entry}
 use Rattle.insn.specs.Meanings.{Act}
@@ -33,9 +33,9 @@ seven_faults a b c d e f g =
     ∷ (reason not_a_new, g)
     ∷ []
 
--- ---- one entry behind the others
+-- ---- one entry after the others
 
--- the offset of the entry in front of one, by the first offset behind it
+-- the offset of the entry in front of one, by the first offset after it
 abbrev pub front_of : ℕ → Option ℕ
 front_of zero = None
 front_of (suc n) = Some n
@@ -46,7 +46,7 @@ IsToldBy r OutOfMemory = Unit {0}
 IsToldBy r fault = r ≡ Some (reason (frame_fault_number fault))
 
 module _ (pool : List Entry) (code : List (ℕ × Act)) (max_locals max_stack : ℕ) where
-  -- the least reason against an entry at an offset, behind locals of these types
+  -- the least reason against an entry at an offset, after locals of these types
   abbrev pub against : ℕ → List VerificationType → MapEntry → Option Reason
   against at ts e = least (entry_conditions pool code max_locals max_stack at e ts (locals_of pool ts e) (stack_of pool e))
 

@@ -12,16 +12,16 @@ use Rattle.layout.specs.PieceLaws.{Made, Writes, made_done, made_then, made_last
 use Rattle.frames.specs.StackMaps.{TypeInfo, top, integer, float, double, long, null, uninitialized_this, object, uninitialized, type_behind, type_info, type_table, tag_of, operand_pieces, type_pieces}
 use Rattle.frames.specs.StackMaps.{MapEntry, same, same_with_item, same_with_item_extended, chop, same_extended, append, full, entry_behind, map_entry, stack_map, between, frame_type, frame_type_pieces, behind_pieces, entry_pieces, map_pieces}
 
--- ---- a byte that says what stands behind it
+-- ---- a byte that says what stands after it
 
--- this byte stands in front of the value, and these bytes spell what is behind it
+-- this byte stands in front of the value, and these bytes spell what is after it
 record Behind {V : Type 0} (first : V → Option ℕ) (pieces : V → List Piece) (byte : ℕ) (bytes : List ℕ)
     (v : V) : Type 0 where
   is : first v ≡ Some byte
   spelled : bytes ≡ text (pieces v)
   fine : ArePlain (pieces v)
 
--- behind each byte stand exactly the values that it stands in front of, each by its pieces
+-- after each byte stand exactly the values that it stands in front of, each by its pieces
 record Told {V : Type 0} (next : ℕ → Format V) (first : V → Option ℕ) (pieces : V → List Piece) : Type 0 where
   has : (v : V) (byte : ℕ) → first v ≡ Some byte → ArePlain (pieces v) → Spells (next byte) (text (pieces v)) v
   only : (v : V) (byte : ℕ) (bytes : List ℕ) → byte < 256 → AreBytes bytes → Spells (next byte) bytes v
@@ -63,7 +63,7 @@ writes_told {V = V} {next = next} {first = first} {pieces = pieces} told =
               (subst (λ (n : ℕ). ArePlain (field 1 n)) x.1 x.3) k.fine),
         )
 
--- what stands behind one byte
+-- what stands after one byte
 behind_this : {A V : Type 0} {f : Format V} {make : A → V} {p : A → List Piece} (first : V → Option ℕ)
     (pieces : V → List Piece) (byte : ℕ) → Made f make p
     → ((a : A) → first (make a) ≡ Some byte) → ((a : A) → p a ≡ pieces (make a)) → (v : V) (bytes : List ℕ)
@@ -215,7 +215,7 @@ made_full : Made {A = ℕ × (List TypeInfo × List TypeInfo)}
 made_full = made_then _ (made_number 2 number_2)
     (λ delta. made_then _ writes_types (λ locals. made_last (full delta locals) writes_types))
 
--- what stands behind a frame type of each range
+-- what stands after a frame type of each range
 at_same : (type : ℕ) → type ≤ 63 → entry_behind type ≡ done (same type)
 at_same type le = rw (le-leb type 63 le) refl
 

@@ -1,4 +1,4 @@
--- Classes with all that stand above them, each behind its superclass. Words of the code's own steps.
+-- Classes with all that stand above them, each after its superclass. Words of the code's own steps.
 use Rattle.std.specs.Prelude.{◌≡◌, ℕ, ◌<◌, List, [], ◌∷◌, map, slice_get, Option, Some, MatchOption}
 use Rattle.std.specs.BTreeMap.{BTreeMap, get}
 use Rattle.std.specs.Borrow.{Bor}
@@ -39,7 +39,7 @@ pub record HavePlaces (classes all : List ClassFact) (places : BTreeMap ℕ ℕ)
       × (c.name ≡ name)
   pub exact : (p : ℕ) (c : ClassFact) → slice_get all p ≡ Some c → place_among classes places c.name ≡ Some p
 
--- classes of a list, each behind the one that stands directly above it
+-- classes of a list, each after the one that stands directly above it
 pub record IsAncestry (classes : List ClassFact) (a : Ancestry) : Type 0 where
   pub places : HavePlaces classes (facts_at a.classes.items) a.places
   pub own : (p : ℕ) (c : ClassFact) → slice_get (facts_at a.classes.items) p ≡ Some c → IsOwn classes c
@@ -59,7 +59,7 @@ HasAny a o = MatchOption o (Unit {0}) (Has a)
 abbrev pub EndsBelow : List ClassFact → Ancestry → List ClassFact → Type 0
 EndsBelow classes a cs = (o : Option ClassFact) × AreInTurn classes cs o × HasAny a o
 
--- one more class is put behind the one that stands directly above it
+-- one more class is put after the one that stands directly above it
 abbrev pub Adds : List ClassFact → Ancestry → Ancestry → ClassFact → Type 0
 Adds classes old new c =
     IsAncestry classes old → HasAny old (class_above classes c) → IsAncestry classes new × Has new c

@@ -96,7 +96,7 @@ pub record AreFlags (numbers : BTreeMap (Bor (List ℕ)) ℕ) (class : List ℕ)
   pub flag : (r : MemberReference) (s : Spot) → IsMember numbers r s
       → flag_of flags s ≡ option_and_then (flag_in class r) (slice_get classes s.place)
 
--- one more class behind those whose flags are kept
+-- one more class after those whose flags are kept
 abbrev pub KeepsClass : BTreeMap (Bor (List ℕ)) ℕ → ClassFact → ℕ → Bool → BTreeMap Spot Bool → BTreeMap Spot Bool
     → Type 0
 KeepsClass numbers c place elsewhere old new =

@@ -52,7 +52,7 @@ row_of tables place = map (λ (skips : List Skip). (skip_at skips place).place) 
 abbrev pub AreLong : List (List Skip) → ℕ → Type 0
 AreLong tables place = (k : ℕ) (skips : List Skip) → slice_get tables k ≡ Some skips → place < length skips
 
--- behind the entries stands the row of a place, as far as a depth reaches
+-- after the entries stands the row of a place, as far as a depth reaches
 pub record IsRowAdded (tables : List (List Skip)) (place depth : ℕ) (old new : List ℕ) : Type 0 where
   pub count : ℕ
   pub few : count ≤ 16

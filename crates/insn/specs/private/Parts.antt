@@ -1,10 +1,10 @@
 -- The parts of operands that acts take.
 use Rattle.std.specs.Prelude.{◌≡◌, ℕ, Option, Some, None}
-use Rattle.insn.specs.declared.meaning.Parts.{Parts}
+use Rattle.insn.specs.declared.instruction_acts.Parts.{Parts}
 use Rattle.insn.specs.Instructions.{Operands}
-use Rattle.insn.specs.declared.operation.Meaning.{Meaning}
+use Rattle.insn.specs.declared.acts.Meaning.{Meaning}
 use Rattle.insn.specs.Meanings.{Act, act_of, local_of, index_of, byte_of, offset_of, offsets_of}
-use Rattle.insn.specs.declared.operation.Act as acts
+use Rattle.insn.specs.declared.acts.Act as acts
 use Rattle.insn.specs.Views.{act_view, targets_view}
 
 -- these parts are those of the operands

@@ -2,10 +2,10 @@
 use Rattle.std.specs.Prelude.{◌≡◌, ℕ, List, map, Option, Some, None, option_map}
 use denote.Ref.{Bor}
 use Rattle.insn.specs.declared.opcode.Opcode.{Opcode}
-use Rattle.insn.specs.declared.operation.Act.{Act}
-use Rattle.insn.specs.declared.operation.Kind.{Kind}
-use Rattle.insn.specs.declared.operation.Meaning.{Meaning}
-use Rattle.insn.specs.declared.operation.NumericOperator.{NumericOperator}
+use Rattle.insn.specs.declared.acts.Act.{Act}
+use Rattle.insn.specs.declared.kinds.Kind.{Kind}
+use Rattle.insn.specs.declared.acts.Meaning.{Meaning}
+use Rattle.insn.specs.declared.operators.NumericOperator.{NumericOperator}
 use Rattle.insn.specs.declared.stack.StackForm as stacks
 use Rattle.insn.specs.declared.stack.StackOperator.{StackOperator}
 use Rattle.insn.specs.declared.table.Form.{Form}
@@ -30,7 +30,7 @@ table_opcode r = r.0
 abbrev pub table_act : TableRow → Option means.Act
 table_act r = option_map act_view r.4
 
--- the act of an opcode behind which nothing stands
+-- the act of an opcode after which nothing stands
 abbrev pub act_where : Form → Opcode → Option means.Act
 act_where forms.Nothing o = Some (act (record { opcode = o; operands = nothing }))
 act_where form o = None

@@ -82,7 +82,7 @@ pub record AreObjects (own : Option ℕ) (heap : Heap) : Type 0 where
   pub none_made : (a : ℕ) (x : ReferenceType) → heap a ≡ Some (object x made) → ⊥
   pub only_own : (a : ℕ) (x : ReferenceType) → heap a ≡ Some (object x this) → own ≡ Some a
 
--- arguments behind the receiver, all of these values together, and the objects
+-- arguments after the receiver, all of these values together, and the objects
 pub record BehindReceiver (world : World) (b : Beginning) (own : Option ℕ) (values arguments : List Value)
     (heap : Heap) : Type 0 where
   pub fit : AllFit world heap b.params arguments
@@ -108,13 +108,13 @@ receivers_of own_receiver = 1
 abbrev pub values_of : Beginning → ℕ
 values_of b = length b.params + receivers_of b.receiver
 
--- so many values stand in these local variables, from the first one on, and all behind them are empty
+-- so many values stand in these local variables, from the first one on, and all after them are empty
 pub record StandIn (count : ℕ) (slots : List Slot) (values : List Value) : Type 0 where
   pub many : length values ≡ count
   pub others : ℕ
   pub are : slots ≡ in_slots values ++ replicate others empty
 
--- they are put behind the old ones; or no values stand so
+-- they are put after the old ones; or no values stand so
 abbrev pub TakesValues : ℕ → List Slot → List Value → List Value → Bool → Type 0
 TakesValues count slots old new true = (values : List Value) × (new ≡ old ++ values) × StandIn count slots values
 TakesValues count slots old new false = (values : List Value) → StandIn count slots values → ⊥

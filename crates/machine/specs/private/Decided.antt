@@ -37,7 +37,7 @@ is_second second = true
 is_second empty = false
 is_second (holds v) = false
 
--- what stands behind a long or double, or behind none
+-- what stands after a long or double, or after none
 abbrev pub is_behind : Bool → Slot → Bool
 is_behind true s = is_second s
 is_behind false s = not (is_second s)

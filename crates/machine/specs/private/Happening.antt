@@ -29,7 +29,7 @@ with_before zero (s ∷ ss) = s ∷ ss
 with_before (suc zero) (s ∷ ss) = (if is_wide_slot s then empty else s) ∷ ss
 with_before (suc (suc n)) (s ∷ ss) = s ∷ with_before (suc n) ss
 
--- where this one holds a long or double, the one behind it is empty
+-- where this one holds a long or double, the one after it is empty
 abbrev pub with_behind : ℕ → List Slot → List Slot
 with_behind n [] = []
 with_behind zero (s ∷ ss) = s ∷ behind_lost (is_wide_slot s) ss

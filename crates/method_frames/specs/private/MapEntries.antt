@@ -29,7 +29,7 @@ pub record AreRewritten (old new : NumberedFrames) : Type 0 where
 abbrev pub IsRestacked : NumberedFrames → NumberedFrames → Type 0
 IsRestacked old new = new ≡ record old { running = record old.running { stack = new.running.stack } }
 
--- locals behind an entry, where those that it chops are gone already
+-- locals after an entry, where those that it chops are gone already
 abbrev pub locals_behind : List Entry → MapEntry → List VerificationType → List VerificationType
 locals_behind pool (append delta infos) ts = ts ++ types_given pool infos
 locals_behind pool (full delta infos stack) ts = types_given pool infos
@@ -40,19 +40,19 @@ abbrev pub chopped : MapEntry → List VerificationType → List VerificationTyp
 chopped (chop count delta) ts = take (length ts - count) ts
 chopped _ ts = ts
 
--- ---- one entry behind the others
+-- ---- one entry after the others
 
--- the first offset behind the entry in front of one, if there is one
+-- the first offset after the entry in front of one, if there is one
 abbrev pub front_of : ℕ → Option ℕ
 front_of zero = None
 front_of (suc n) = Some n
 
 module _ (pool : List Entry) (code : List (ℕ × Act)) (max_locals max_stack : ℕ) where
-  -- the least reason against an entry at an offset, behind locals of these types
+  -- the least reason against an entry at an offset, after locals of these types
   abbrev pub against : ℕ → List VerificationType → MapEntry → Option Reason
   against at ts e = least (entry_conditions pool code max_locals max_stack at e ts (locals_of pool ts e) (stack_of pool e))
 
-  -- the frame of an entry at an offset is declared behind the others, and the running frame is this one
+  -- the frame of an entry at an offset is declared after the others, and the running frame is this one
   pub record IsDeclared (old new : NumberedFrames) (at : ℕ) (e : MapEntry) (before after : List ℕ) : Type 0 where
     pub free : against at (types_by old.types before) e ≡ None
     pub locals : types_by old.types after ≡ locals_of pool (types_by old.types before) e

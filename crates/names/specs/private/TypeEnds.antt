@@ -7,7 +7,7 @@ use Rattle.names.specs.Names.{slash}
 use Rattle.names.specs.Descriptors.{FieldDescriptor, dimensions, field_width, result_types}
 use Rattle.names.specs.Reading.{found, goes_on, is_deep, read_base, read_field, read_params, read_result, primitive_of}
 
--- a class name goes on with the byte at a place, behind the one before it
+-- a class name goes on with the byte at a place, after the one before it
 abbrev pub goes_on_at : List ℕ → ℕ → Bool
 goes_on_at bytes place = goes_on (nat_eq (slice_index bytes (place - 1)) slash) (slice_index bytes place)
 
@@ -49,7 +49,7 @@ pub record ReadsType (bytes : List ℕ) (at end : ℕ) : Type 0 where
   pub shallow : is_deep type ≡ false
   pub width : field_width type ≡ units_of (slice_index bytes at)
 
--- parameters of so many units stand behind the first byte, and at this place the ')' behind them
+-- parameters of so many units stand after the first byte, and at this place the ')' after them
 pub record SeesParams (bytes : List ℕ) (end units : ℕ) : Type 0 where
   pub types : List FieldDescriptor
   pub within : end < length bytes

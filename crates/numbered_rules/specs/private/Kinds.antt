@@ -1,4 +1,4 @@
--- The kind of a type by the parts of its number: its tag, its dimensions and the two bytes behind them.
+-- The kind of a type by the parts of its number: its tag, its dimensions and the two bytes after them.
 use Rattle.std.specs.Prelude.{ℕ, Bool, true, false, not, ◌&&◌, ◌||◌, nat_eq, nat_lt}
 use Rattle.names.specs.declared.base.Primitive.{Primitive}
 use Rattle.names.specs.Descriptors.{primitive}

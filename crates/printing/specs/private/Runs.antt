@@ -1,4 +1,4 @@
--- Bytes of a name that stand as they are, one behind the other. Words of the code's own steps.
+-- Bytes of a name that stand as they are, one after the other. Words of the code's own steps.
 use Rattle.std.specs.Prelude.{◌≡◌, ℕ, ◌+◌, ◌≤◌, ◌<◌, List, [], ◌∷◌, length, slice_index}
 
 -- the byte spells a unit, whose text it is

@@ -2,7 +2,7 @@
 -- stands on it.
 use Rattle.std.proofs.Common.{◌≡◌, ℕ, pos, negsuc, true, false, List, [], ◌∷◌, Option, Some, None, codes, refl}
 use Rattle.classfile.specs.Methods.{Method}
-use Rattle.insn.specs.declared.operation.Kind.TheVariants.{Int, Long}
+use Rattle.insn.specs.declared.kinds.Kind.TheVariants.{Int, Long}
 use Rattle.insn.specs.declared.stack.StackOperator.TheVariants.{Pop}
 use Rattle.insn.specs.Meanings.{Act, Nothing, Constant, Load, Store, Increment, Stack, IfInt, Goto, Switch, ReturnVoid}
 use Rattle.layout.specs.Format as formats

@@ -8,7 +8,7 @@ use Rattle.pool.specs.Entries as entries
 use Rattle.pool.specs.Lookups.{entry_at, text_at, class_name_at, named, name_and_type_at, member, field_ref_at, method as method_constant, method_ref_at}
 use Rattle.hierarchy.specs.Class.{ClassFact}
 use Rattle.classfile.specs.Methods.{Method, ExceptionEntry}
-use Rattle.insn.specs.declared.operation.Kind.TheVariants.{Int}
+use Rattle.insn.specs.declared.kinds.Kind.TheVariants.{Int}
 use Rattle.insn.specs.declared.stack.StackOperator.TheVariants.{Pop, Dup}
 use Rattle.insn.specs.Meanings as acts
 use Rattle.insn.specs.Meanings.{Act, New, InvokeSpecial, LoadReference, StoreReference, ReturnReference, ReturnVoid, Constant, Load, Store, Return, Stack, GetField, LoadReferenceElement, CheckCast, InvokeVirtual}
@@ -97,7 +97,7 @@ covered_constructor : of_constructor (Some (0 ∷ 1 ∷ 69 ∷ 7 ∷ 0 ∷ 8 ∷
 unfolding maps.stack_map formats.times maps.map_entry maps.type_table maps.type_info entry_at text_at class_name_at named name_and_type_at member field_ref_at method_constant method_ref_at read_class read_base read_field read_params read_result read_method field_answer method_answer
 covered_constructor = refl
 
--- ---- a `new` behind code that ends, and its object declared on the stack
+-- ---- a `new` after code that ends, and its object declared on the stack
 
 behind_a_return : verdict typing_rule classes (method [] None (Some (0 ∷ 1 ∷ 1 ∷ [])) [] ((0, ReturnVoid) ∷ (1, New 1) ∷ (4, Stack Pop) ∷ (5, ReturnVoid) ∷ [])) ≡ verified
 unfolding maps.stack_map formats.times maps.map_entry maps.type_table maps.type_info entry_at text_at class_name_at named name_and_type_at member field_ref_at method_constant method_ref_at read_class read_base read_field read_params read_result read_method field_answer method_answer

@@ -4,8 +4,8 @@ use Rattle.names.specs.Descriptors.{FieldDescriptor, primitive, class, array}
 use Rattle.classfile.specs.Methods.{Method, Receiver, no_receiver, ready_receiver, own_receiver, receiver_of}
 use Rattle.insn.specs.Meanings.{Act}
 use Rattle.insn.specs.Kinds.{computed_as}
-use Rattle.insn.specs.declared.operation.Kind.{Kind}
-use Rattle.insn.specs.declared.operation.Kind.TheVariants.{Int, Long, Float, Double}
+use Rattle.insn.specs.declared.kinds.Kind.{Kind}
+use Rattle.insn.specs.declared.kinds.Kind.TheVariants.{Int, Long, Float, Double}
 use Rattle.frames.specs.FrameFact.{FrameFact}
 use Rattle.frames.specs.Slots.{number_type, descriptor_type, all_locals}
 use Rattle.frames.specs.DeclaredFrames.{has_uninit_this, is_uninit_this, frame_with}

@@ -51,7 +51,7 @@ module _ (ds : List (ℕ × NumberedFrame)) where
   pub shares_on : (n f g h : ℕ) → SharesBelow ds n f g → SharesBelow ds n g h → SharesBelow ds n f h
   shares_on n f g h a b place lt = a place lt ∙ b place lt
 
-  -- a frame behind the last of a list
+  -- a frame after the last of a list
   pub chain_more : (rs : List Representative) (one : Representative) → IsChain ds rs
       → ((k : ℕ) (g : Representative) → k + 1 ≡ length rs → slice_get rs k ≡ Some g → SharesBelow ds one.shared g.frame one.frame) → IsChain ds (rs ++ one ∷ [])
   chain_more rs one chain last k g h at_k behind = elim (pushed_cases rs one h (k + 1) behind) [
@@ -161,7 +161,7 @@ module _ (x : NumberedFrames) (rs : List Representative) where
   pub changes_named : TakeChangesTo (length x.running.locals) → (frame : ℕ) → IsNamed rs frame → TakesChanges x frame (length x.running.locals)
   changes_named so frame n = subst (λ f. TakesChanges x f (length x.running.locals)) n.is (so n.place n.one n.here)
 
--- ---- one is put behind the last
+-- ---- one is put after the last
 
 module _ (ds : List (ℕ × NumberedFrame)) (old new : Representatives) (frame shared : ℕ) (put : IsPut old frame shared new) where
   abbrev one : Representative
@@ -210,7 +210,7 @@ module _ (ds : List (ℕ × NumberedFrame)) where
     named = λ f lt. subst (λ l. IsNamed l.items f) (sym list) (are.named f (subst (λ n. 0 < n) (same f) lt));
   }
 
-  -- one was put behind the last
+  -- one was put after the last
   pub with_put : (old new : Representatives) (frame shared : ℕ) → AreRepresentatives ds old → IsPut old frame shared new → frame < length ds → frame < length old.until.items
       → ((k : ℕ) (g : Representative) → k + 1 ≡ length old.list.items → slice_get old.list.items k ≡ Some g → SharesBelow ds shared g.frame frame) → AreRepresentatives ds new
   with_put old new frame shared are put lt room so = record {

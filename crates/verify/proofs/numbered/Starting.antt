@@ -31,7 +31,7 @@ has_handler s ds (x ∷ es) (h ∷ hs) (suc k) e a got = let t = has_handler s d
 
 -- ---- the order of starts
 
--- those behind an entry do not begin before it
+-- those after an entry do not begin before it
 pub later_starts : (xs : List Handler) (n : ℕ) (x : Handler) → IsNonDecreasingBy (λ (one : Handler). one.from) xs → (place : ℕ) (one : Handler) → n ≤ place → slice_get xs place ≡ Some one
     → x ≡ get_or xs n x → x.from ≤ one.from
 later_starts xs n x rises place one behind there is =

@@ -8,8 +8,8 @@ use Rattle.pool.specs.Entries.{Entry}
 use Rattle.pool.specs.ConstantMeanings.{constant_at, class_at, FieldConstant, field_at, MethodConstant, method_at, dynamic_type_at, CallSite, call_site_at}
 use Rattle.classfile.specs.Bootstraps.{has_bootstrap}
 use Rattle.classfile.specs.Methods.{Method, is_own_field}
-use Rattle.insn.specs.declared.operation.Kind.{Kind}
-use Rattle.insn.specs.declared.operation.Kind.TheVariants as kinds
+use Rattle.insn.specs.declared.kinds.Kind.{Kind}
+use Rattle.insn.specs.declared.kinds.Kind.TheVariants as kinds
 use Rattle.insn.specs.Kinds.{kind_units, computed_as, same_kind}
 use Rattle.insn.specs.Operators.{numeric_row}
 use Rattle.insn.specs.Meanings as acts

@@ -8,8 +8,8 @@ use Rattle.pool.specs.ConstantMeanings.{FieldConstant, MethodConstant, constant_
 use Rattle.names.specs.declared.base.Primitive.{Primitive}
 use Rattle.classfile.specs.Methods.{Method}
 use Rattle.hierarchy.specs.World.{World}
-use Rattle.insn.specs.declared.operation.Kind.{Kind}
-use Rattle.insn.specs.declared.operation.Kind.TheVariants as kinds
+use Rattle.insn.specs.declared.kinds.Kind.{Kind}
+use Rattle.insn.specs.declared.kinds.Kind.TheVariants as kinds
 use Rattle.insn.specs.Meanings as acts
 use Rattle.insn.specs.Meanings.{Act}
 use Rattle.insn.specs.Kinds.{computed_as, same_kind}

@@ -8,7 +8,7 @@ use Rattle.hierarchy.specs.World.{World}
 use Rattle.insn.specs.Meanings as acts
 use Rattle.insn.specs.Meanings.{Act}
 use Rattle.insn.specs.Offsets.{next_offset}
-use Rattle.insn.specs.declared.operation.Kind.{Kind}
+use Rattle.insn.specs.declared.kinds.Kind.{Kind}
 use Rattle.insn.specs.Kinds.{computed_as, same_kind}
 use Rattle.machine.specs.Values.{Value, number, null, reference, all_slots}
 use Rattle.machine.specs.Heap.{Status, ready, this, Object, object, Heap, with_object, with_fresh}
@@ -206,7 +206,7 @@ static_by w h static c receiver m k e = k.0
 static_by w h special c receiver m k e = cc
 static_by w h virtual c receiver m k e = cc
 
--- ---- readiness behind a call
+-- ---- readiness after a call
 
 after_own : (own address : ℕ) (status : ℕ → Status) → own ≡ address → status_after true (reference own ∷ []) status address ≡ ready
 after_own own address status e = rw (eq-eqb own address e) refl

@@ -5,7 +5,7 @@ use Rattle.names.specs.ReferenceTypes.{ReferenceType, class_type, array_type, de
 use Rattle.hierarchy.specs.World.{World}
 use Rattle.hierarchy.specs.Class.{ClassFact}
 use Rattle.hierarchy.specs.Answer.{yes}
-use Rattle.insn.specs.declared.operation.Kind.TheVariants as kinds
+use Rattle.insn.specs.declared.kinds.Kind.TheVariants as kinds
 use Rattle.insn.specs.OperandStacks.{beneath}
 use Rattle.frames.specs.VerificationType.{VerificationType, null as null_type, class, array}
 use Rattle.frames.specs.FrameFact.{FrameFact}

@@ -50,7 +50,7 @@ module _ (typing_rule : TypingRules) (classes : List ClassFact) (m : Method Act)
   abbrev pub AreFine : List (ℕ × Act) → Type 0
   AreFine cs = (at : ℕ) (act : Act) → at_offset cs at ≡ Some act → IsFineIn typing_rule classes m frames table cs at act
 
-  -- an instruction behind the first that is fine is so in the rest of the code
+  -- an instruction after the first that is fine is so in the rest of the code
   pub fine_behind : (c : ℕ × Act) (cs : List (ℕ × Act)) (p : ℕ) (act : Act) → at_offset cs c.0 ≡ None → at_offset cs p ≡ Some act
       → (at_offset (c ∷ cs) p ≡ Some act) × (next_offset (c ∷ cs) p ≡ next_offset cs p) × (IsFineIn typing_rule classes m frames table (c ∷ cs) p act → IsFineIn typing_rule classes m frames table cs p act)
   fine_behind c cs p act apart e =

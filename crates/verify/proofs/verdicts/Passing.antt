@@ -49,7 +49,7 @@ module _ (typing_rule : TypingRules) (classes : List ClassFact) (m : Method Act)
   declared_alone f None e = cc
   declared_alone f (Some g) e = (g, refl)
 
-  -- an instruction among these is fine in the table's frame, and what comes behind it is right
+  -- an instruction among these is fine in the table's frame, and what comes after it is right
   pub record IsFineIn (table : ℕ → FrameFact) (cs : List (ℕ × Act)) (at : ℕ) (act : Act) : Type 0 where
     pub fine : IsFine classes m frames at act (typing_rule m act) (table at)
     pub next : falls (typing_rule m act) ≡ true → (to : ℕ) × (next_offset cs at ≡ Some to) × Comes classes frames table (after m at (typing_rule m act) (table at)) to
@@ -90,7 +90,7 @@ module _ (typing_rule : TypingRules) (classes : List ClassFact) (m : Method Act)
   abbrev pub IsEntered : List (ℕ × Act) → Bool → FrameFact → Type 0
   IsEntered cs b g = (q : ℕ) → first_offset cs ≡ Some q → (entry classes b g (at_offset frames q) ≡ None) × (came cs g ≡ entered g (at_offset frames q))
 
-  -- a table for the instructions behind one is widened to that one
+  -- a table for the instructions after one is widened to that one
   module _ (c : ℕ × Act) (cs : List (ℕ × Act)) (f : FrameFact) (apart : at_offset cs c.0 ≡ None) (own : (k : FrameFact) → at_offset frames c.0 ≡ Some k → f ≡ k)
       (fine : least (at_conditions classes m frames c.0 c.1 (typing_rule m c.1) (first_offset cs) f) ≡ None)
       (on : IsEntered cs (falls (typing_rule m c.1)) (after m c.0 (typing_rule m c.1) f))

@@ -74,7 +74,7 @@ module _ (typing_rule : TypingRules) (classes : List ClassFact) (m : Method Act)
           ∙ ap (λ z. entry classes (falls (typing_rule m act)) (after m stop (typing_rule m act) z) (at_offset frames at)) (sym frame)
           ∙ y.2)
 
-  -- it stands behind the first
+  -- it stands after the first
   onward_to : (cs : List (ℕ × Act)) (p : ℕ) → first_offset cs ≡ Some p → (b : Bool) (g : FrameFact) → (entry classes b g (at_offset frames p) ≡ None) × (table p ≡ entered g (at_offset frames p))
       → ((k : FrameFact) → ((q : ℕ) → first_offset cs ≡ Some q → table q ≡ k) → passes typing_rule classes m frames cs k ≡ refused at why)
       → arrives classes frames cs b g (passes typing_rule classes m frames cs) ≡ refused at why
@@ -97,7 +97,7 @@ module _ (typing_rule : TypingRules) (classes : List ClassFact) (m : Method Act)
       by true b = no_act act (sym (not_at from cs p rise (ltb-true p from b)) ∙ e)
       by false b = ltb-false p from b
 
-  -- the first of the rest does not stand behind it
+  -- the first of the rest does not stand after it
   first_before : (cs : List (ℕ × Act)) (from p : ℕ) → StartsRise from cs → at_offset cs stop ≡ Some act → first_offset cs ≡ Some p → p ≤ stop
   first_before [] from p rise e i = cc
   first_before (d ∷ ds) from p rise e i =

@@ -25,7 +25,7 @@ told None p rest at why e = inr (refl, e)
 told (Some w) p rest at why e = let x : w ≡ why = cc in let y : p ≡ at = cc in inl (ap (λ (z : Reason). Some z) x, y)
 
 module _ (typing_rule : TypingRules) (classes : List ClassFact) (m : Method Act) (frames : Frames) where
-  -- the refusal is of this instruction, or of the frame behind it
+  -- the refusal is of this instruction, or of the frame after it
   abbrev pub Fails : ℕ → Act → Option ℕ → FrameFact → ℕ → Reason → Type 0
   Fails stop act next f at why =
       ((least (at_conditions classes m frames stop act (typing_rule m act) next f) ≡ Some why) × (stop ≡ at))
@@ -127,7 +127,7 @@ module _ (typing_rule : TypingRules) (classes : List ClassFact) (m : Method Act)
       by (inl x) rec = at_head c cs f at why (omega arith, rise.1) (λ k i. own c.0 k refl i) (inl x)
       by (inr x) rec = arriving from c cs f at why rise (λ k i. own c.0 k refl i) x.0 rec x.1
 
-  -- the refusal is of the first frame, or comes from the pass behind it
+  -- the refusal is of the first frame, or comes from the pass after it
   arrived : (cs : List (ℕ × Act)) (b : Bool) (g : FrameFact) (at : ℕ) (why : Reason) → arrives classes frames cs b g (passes typing_rule classes m frames cs) ≡ refused at why
       → ((first_offset cs ≡ Some at) × (entry classes b g (at_offset frames at) ≡ Some why))
       ⊎ (((q : ℕ) → first_offset cs ≡ Some q → (entry classes b g (at_offset frames q) ≡ None) × (came typing_rule classes m frames cs g ≡ entered g (at_offset frames q)))

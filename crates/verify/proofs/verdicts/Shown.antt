@@ -73,7 +73,7 @@ module _ (typing_rule : TypingRules) (classes : List ClassFact) (m : Method Act)
           told = inr (g, b, ap (λ n. least (at_conditions classes m frames c.0 c.1 (typing_rule m c.1) n g)) first_next ∙ e);
         })
 
-    -- the frames at an instruction behind it
+    -- the frames at an instruction after it
     behind : (coming : Option FrameFact) (g : FrameFact) (at : ℕ) (why : Reason) → before coming declared ≡ Some g
         → least (at_conditions classes m frames c.0 c.1 (typing_rule m c.1) (first_offset cs) g) ≡ None → StartsRise (c.0 + 1) cs
         → Judged cs at why (met_at cs (frame_if (falls (typing_rule m c.1)) (after m c.0 (typing_rule m c.1) g)) at) → Judged (c ∷ cs) at why (met_at (c ∷ cs) coming at)

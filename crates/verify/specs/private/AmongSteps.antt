@@ -14,7 +14,7 @@ use Rattle.verify.specs.Files.{Read, AreFormed, IsFirstRefused}
 use Rattle.verify.specs.Explaining.{IsExplained}
 use Rattle.verify.specs.FinalSuper.{has_final_super}
 
--- The summaries of these files stand behind those that were there; or the file of this number, from 1 on, is the first
+-- The summaries of these files stand after those that were there; or the file of this number, from 1 on, is the first
 -- that is refused.
 abbrev pub Adds : List Read → List ClassFact → List ClassFact → Result Unit AmongFault → Type 0
 Adds known old new (Ok done) = (cs : List Class) × AreFormed known cs × (new ≡ old ++ map summary_of cs)

@@ -55,7 +55,7 @@ fn method_types<'a, C: Classes>(
     Ok(methods)
 }
 
-/// Puts a number behind others, if there is one.
+/// Puts a number after others, if there is one.
 fn put(number: Option<u32>, numbers: &mut Vec<u32>) -> Result<(), AllocError>
     ensures { OnOk result (numbers.new.items ≡ numbers.old.items ++ option_to_list number) }
 {

@@ -35,7 +35,7 @@ use type_numbers::NamedConstant;
 pub struct Entry {
     /// The offset of the first instruction that it covers, in bytes.
     pub from: u16,
-    /// The offset behind those that it covers.
+    /// The offset after those that it covers.
     pub to: u16,
     /// The offset of the handler.
     pub handler: u16,
@@ -93,7 +93,7 @@ pub fn exception_table(alloc: Global, body: &Body<'_, '_>) -> Result<Vec<Entry>,
     }
 }
 
-/// Whether a range of code may end at an offset: where an instruction begins, or behind the last one.
+/// Whether a range of code may end at an offset: where an instruction begins, or after the last one.
 fn is_end(to: u16, body: &Body<'_, '_>) -> bool
     ensures { result ≡ is_end (method_view body.now.method.now) to }
 {

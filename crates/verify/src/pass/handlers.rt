@@ -23,7 +23,7 @@ use std::alloc::{AllocError, Global};
 pub struct Handler {
     /// The offset of the first instruction that it covers, in bytes.
     pub from: u16,
-    /// The offset behind those that it covers.
+    /// The offset after those that it covers.
     pub to: u16,
     /// The place of the frame that is declared at the handler.
     pub frame: usize,
@@ -182,7 +182,7 @@ pub struct Handlers {
     begun: usize,
     // How many of these entries were compared with the frame that was kept, or have ended.
     settled: usize,
-    // The offset behind the last instruction that one of those covers whose ranges have begun, in bytes; 0 at first.
+    // The offset after the last instruction that one of those covers whose ranges have begun, in bytes; 0 at first.
     reach: u16,
     // No range that has not begun begins before this offset.
     next_start: u16,

@@ -72,7 +72,7 @@ fn takes_local<C: Classes>(
 #[derive(Drop)]
 pub struct Representatives {
     list: Vec<Representative>,
-    // By the place of a declared frame, the offset behind the last instruction for which it is in the list, in bytes; 0
+    // By the place of a declared frame, the offset after the last instruction for which it is in the list, in bytes; 0
     // where it is not.
     until: Vec<u16>,
     // Below this number all have the locals of the first one.
@@ -104,7 +104,7 @@ impl Representatives {
         self.list.is_empty()
     }
 
-    /// Puts one behind the last, with which it shares so many locals.
+    /// Puts one after the last, with which it shares so many locals.
     fn put(&mut self, frame: usize, shared: usize) -> Result<(), AllocError>
         ensures { OnOk result (IsPut self.old frame shared self.new) }
     {

@@ -1,4 +1,4 @@
--- No row so far breaks the rule, and the others stand behind them.
+-- No row so far breaks the rule, and the others stand after them.
 use Rattle.std.proofs.Common.{◌≡◌, ◌-◌}
 use Rattle.std.specs.List.{list_any}
 use Rattle.classfile.specs.Numbers.{rows_in}

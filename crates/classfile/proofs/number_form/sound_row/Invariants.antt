@@ -1,4 +1,4 @@
--- No number so far breaks the rule, and the others stand behind them.
+-- No number so far breaks the rule, and the others stand after them.
 use Rattle.std.proofs.Common.{◌≡◌, drop}
 use Rattle.classfile.specs.Numbers.{row_in, behind_row}
 use Rattle.classfile.specs.NumberForm.{breaks, row_breaks}

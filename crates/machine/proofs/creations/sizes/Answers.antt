@@ -1,6 +1,6 @@
 use Rattle.std.proofs.Common.{◌≡◌, suc, ◌+◌, arith, ◌∷◌, [], ◌++◌, ◌∙◌, ap}
 use Rattle.std.proofs.lemmas.List.{map-append}
-use Rattle.insn.specs.declared.operation.Kind.TheVariants as kinds
+use Rattle.insn.specs.declared.kinds.Kind.TheVariants as kinds
 use Rattle.machine.specs.declared.effect.Demand.TheVariants as raw
 use Rattle.machine.specs.Effects.{of_kind, sizes}
 use Rattle.machine.specs.private.EffectViews.{demand_view, demands_view}

@@ -2,7 +2,7 @@ use Rattle.std.proofs.Common.{◌≡◌, ◌∙◌, true, [], ◌∷◌, ap, sym
 use Rattle.std.proofs.lemmas.List.Elements.{All-nil, All-cons}
 use Rattle.insn.specs.Meanings.{LoadElement}
 use Rattle.insn.specs.Kinds.{computed_as}
-use Rattle.insn.specs.declared.operation.Kind.TheVariants.{Int}
+use Rattle.insn.specs.declared.kinds.Kind.TheVariants.{Int}
 use Rattle.frames.specs.Slots.{number_type}
 use Rattle.type_numbers.specs.Decoding.{type_by}
 use Rattle.type_numbers.proofs.Decoded.{number_read}

@@ -3,7 +3,7 @@ use Rattle.std.proofs.lemmas.List.Elements.{All-nil, All-cons}
 use Rattle.names.specs.Descriptors.{class as class_descriptor}
 use Rattle.names.specs.ReferenceTypes.{array_type}
 use Rattle.names.specs.StandardNames.{object_name}
-use Rattle.insn.specs.declared.operation.Kind.TheVariants.{Int}
+use Rattle.insn.specs.declared.kinds.Kind.TheVariants.{Int}
 use Rattle.type_numbers.specs.Decoding.{type_by}
 use Rattle.rules.specs.Bodies.{method_view}
 use Rattle.rules.specs.Table.{object_array}

@@ -1,6 +1,6 @@
 use Rattle.std.proofs.Common.{◌∙◌, true, [], ◌∷◌, sym, ap}
 use Rattle.names.specs.Descriptors.{primitive}
-use Rattle.insn.specs.declared.operation.Kind.TheVariants.{Int}
+use Rattle.insn.specs.declared.kinds.Kind.TheVariants.{Int}
 use Rattle.frames.specs.VerificationType.{array}
 use Rattle.type_numbers.specs.Decoding.{type_by}
 use Rattle.type_numbers.proofs.Decoded.{number_read}

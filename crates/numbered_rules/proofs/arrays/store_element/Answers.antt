@@ -1,8 +1,8 @@
 use Rattle.std.proofs.Common.{List, [], ◌∷◌, ap, sym}
 use Rattle.std.proofs.lemmas.List.Elements.{All-nil, All-cons}
 use Rattle.insn.specs.Meanings.{StoreElement}
-use Rattle.insn.specs.declared.operation.Kind.{Kind}
-use Rattle.insn.specs.declared.operation.Kind.TheVariants.{Int}
+use Rattle.insn.specs.declared.kinds.Kind.{Kind}
+use Rattle.insn.specs.declared.kinds.Kind.TheVariants.{Int}
 use Rattle.rules.specs.Bodies.{method_view}
 use Rattle.rules.specs.Table.{typing_rule}
 use Rattle.rules.specs.TypingRules.{ExpectedType, any_array_for, number, takes}

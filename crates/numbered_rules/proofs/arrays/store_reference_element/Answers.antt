@@ -3,7 +3,7 @@ use Rattle.std.proofs.lemmas.List.Elements.{All-nil, All-cons}
 use Rattle.names.specs.Descriptors.{class as class_descriptor}
 use Rattle.names.specs.ReferenceTypes.{array_type, class_type}
 use Rattle.names.specs.StandardNames.{object_name}
-use Rattle.insn.specs.declared.operation.Kind.TheVariants.{Int}
+use Rattle.insn.specs.declared.kinds.Kind.TheVariants.{Int}
 use Rattle.rules.specs.Table.{object_array}
 use Rattle.rules.specs.TypingRules.{expected_class, number}
 use Rattle.numbered_rules.specs.declared.expected.Expected.TheVariants.{Object, ObjectArray}

@@ -1,7 +1,7 @@
 use Rattle.std.proofs.Common.{◌/◌, ◌%◌, ◌<◌, ◌≡◌, ◌+◌, true, false, [], ◌∷◌, option_map, refl, sym, ap, subst, arith, nat_lt}
 use Rattle.names.specs.ReferenceTypes.{dimensions_of, descriptor_of}
 use Rattle.pool.specs.ConstantMeanings.{class_at}
-use Rattle.insn.specs.declared.operation.Kind.TheVariants.{Int}
+use Rattle.insn.specs.declared.kinds.Kind.TheVariants.{Int}
 use Rattle.frames.specs.Slots.{to_reference}
 use Rattle.frames.specs.VerificationType.{array}
 use Rattle.type_numbers.specs.Decoding.{type_by}

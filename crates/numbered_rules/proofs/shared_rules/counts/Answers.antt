@@ -1,6 +1,6 @@
 use Rattle.std.proofs.Common.{◌≡◌, ◌∙◌, false, inr, refl, sym, ap, arith}
 use Rattle.hierarchy.specs.Answer.{outcome_of}
-use Rattle.insn.specs.declared.operation.Kind.TheVariants.{Int}
+use Rattle.insn.specs.declared.kinds.Kind.TheVariants.{Int}
 use Rattle.frames.specs.VerificationType.{int}
 use Rattle.type_numbers.specs.Decoding.{type_by}
 use Rattle.rules.specs.Bodies.{method_view}

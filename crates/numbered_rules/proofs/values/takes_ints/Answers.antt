@@ -1,6 +1,6 @@
 use Rattle.std.proofs.Common.{[], ◌∷◌}
 use Rattle.std.proofs.lemmas.List.Elements.{All-nil, All-cons}
-use Rattle.insn.specs.declared.operation.Kind.TheVariants.{Int}
+use Rattle.insn.specs.declared.kinds.Kind.TheVariants.{Int}
 use Rattle.rules.specs.TypingRules.{number}
 use Rattle.numbered_rules.specs.Expected.{IsExpected}
 use Rattle.numbered_rules.proofs.values.takes_ints.Goals as goal

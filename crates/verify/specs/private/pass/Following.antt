@@ -105,7 +105,7 @@ pub record HasReached (at : ℕ) (h : Handlers) : Type 0 where
   pub last : (h.reach ≡ 0) ⊎ ((place : ℕ) × (one : Handler) × (place < h.begun)
       × (slice_get h.by_start.items place ≡ Some one) × (one.to ≡ h.reach))
 
--- the entries that are to come begin at the offset or behind it
+-- the entries that are to come begin at the offset or after it
 abbrev pub AreFrom : ℕ → Handlers → Type 0
 AreFrom at h = (place : ℕ) (one : Handler) → h.begun ≤ place → slice_get h.by_start.items place ≡ Some one
     → at ≤ one.from
@@ -123,7 +123,7 @@ pub record Follows (x : NumberedFrames) (es : List ExceptionEntry) (at : ℕ) (h
       → IsSettled x h.flag h.representatives.until.items one
   pub representatives : AreRepresentatives x.declared h.representatives
 
--- the entries that are to come begin behind the offset
+-- the entries that are to come begin after the offset
 abbrev pub AreAhead : ℕ → Handlers → Type 0
 AreAhead at h = (place : ℕ) (one : Handler) → h.begun ≤ place → slice_get h.by_start.items place ≡ Some one
     → at < one.from

@@ -74,7 +74,7 @@ pub record AreRepresentatives (ds : List (ℕ × NumberedFrame)) (rs : Represent
   pub common : IsCommon rs.common rs.list.items
   pub named : (frame : ℕ) → 0 < slice_index rs.until.items frame → IsNamed rs.list.items frame
 
--- a frame was put behind the last, with which it shares so many locals; the first one shares as many as it may
+-- a frame was put after the last, with which it shares so many locals; the first one shares as many as it may
 pub record IsPut (old : Representatives) (frame shared : ℕ) (new : Representatives) : Type 0 where
   pub kept : ℕ
   pub list : new.list.items ≡ old.list.items ++ record { frame = frame; shared = kept } ∷ []

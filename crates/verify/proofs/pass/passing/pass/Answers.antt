@@ -1,7 +1,7 @@
 use Rattle.std.proofs.Common.{◌≡◌, ◌⊎◌, ℕ, Bool, ◌+◌, ◌<◌, ◌≤◌, true, is_none, ◌∷◌, Option, Some, Result, Ok, Err, length, refl, sym, ◌∙◌, ap, subst, arith}
 use Rattle.std.proofs.lemmas.Bool.Decides.{nat_tests}
 use Rattle.layout.specs.Place.{Place}
-use Rattle.insn.specs.declared.operation.Act as program
+use Rattle.insn.specs.declared.acts.Act as program
 use Rattle.insn.specs.Meanings.{Act}
 use Rattle.insn.specs.Offsets.{acts, at_offset, first_offset}
 use Rattle.insn.specs.CodeResults.{or_none, instructions_in}
@@ -171,7 +171,7 @@ goes g c come after r u is done =
       within = (step_within c.loop-code.code c.take_act.new.self x taken).1 ∙ now.within;
     }
 
--- the bytes of the instruction are behind it
+-- the bytes of the instruction are after it
 moved : (g : Over) (c : After-scope_of g) → (c.at-at.result ≤ c.take_act.new.self.at) × (length c.take_act.new.self.rest < length c.loop-code.code.rest)
 moved g c =
     let within = step_within c.loop-code.code c.take_act.new.self (c.at-at.result, c.take_act.result)

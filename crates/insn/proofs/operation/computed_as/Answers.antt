@@ -1,5 +1,0 @@
-use Rattle.std.proofs.Common.{rules}
-use Rattle.insn.proofs.operation.computed_as.Goals as goal
-
-pub returns-in-Float : goal.returns-in-Float
-returns-in-Float c = search rules
