@@ -27,7 +27,7 @@
 //! - `block`: blocks of 16 numbers, compared by lanes
 //! - `comparison`: two trees compared slot by slot, as far as numbers and earlier fits decide
 //! - `fitting`: nodes that are said to fit others
-//! - `laws`: what the pairs that were said to fit mean, without code
+//! - `laws`: what the pairs that were said to fit mean; its functions do nothing
 //! - `node`: a node of a tree
 //! - `tree`: what a slot holds, and how a number is put where no other row sees it
 #![tactic(auto)]

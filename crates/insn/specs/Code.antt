@@ -6,9 +6,7 @@ use Rattle.layout.specs.Format.{Spells, FirstFault}
 use Rattle.insn.specs.declared.fault.CodeFault.{CodeFault}
 use Rattle.insn.specs.declared.fault.CodeFault.TheVariants.{OutOfMemory, CutInstruction}
 use Rattle.insn.specs.declared.opcode.Opcode.{Opcode}
-use Rattle.insn.specs.declared.table.Form.TheVariants as forms
-use Rattle.insn.specs.Opcodes.{form}
-use Rattle.insn.specs.Instructions.{Instruction, Operands, nothing, wide_local, wide_increment, instruction_at}
+use Rattle.insn.specs.Instructions.{Instruction, Operands, wide_local, wide_increment, instruction_at}
 
 -- these bytes, at this offset, are the instruction
 abbrev pub SpellsInstruction : ℕ → List ℕ → Instruction → Type 0
@@ -69,12 +67,6 @@ StepsBy view given old (Some (Err e)) new = (0 < length old.rest) × FaultyInstr
 abbrev pub HasInstruction : Place → Type 0
 HasInstruction p = (i : Instruction) × (first : List ℕ) × (others : List ℕ) × (p.rest ≡ first ++ others)
     × SpellsInstruction p.at first i
-
--- An instruction without operands was taken, and the place is after it; or nothing was, and the place is where it was.
-abbrev pub TakesAlone : Place → Place → Option Opcode → Type 0
-TakesAlone old new (Some o) = (form o ≡ forms.Nothing) × (first : List ℕ)
-    × SpellsInstruction old.at first (record { opcode = o; operands = nothing }) × Took first old new
-TakesAlone old new None = new ≡ old
 
 -- The opcode that says what is done: after `wide` the one that is modified (JVMS 6.5, wide).
 abbrev pub modified : Opcode → Operands → Opcode

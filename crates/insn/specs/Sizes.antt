@@ -1,5 +1,5 @@
--- How many bytes instructions have, by their operands as they are (JVMS 6.5): what is asked before it matters whether
--- bytes spell them.
+-- How many bytes instructions have, by their operands (JVMS 6.5). Instructions that are made by hand have a size too, also
+-- where no bytes spell them.
 use Rattle.std.specs.Prelude.{ℕ, ◌+◌, List, [], ◌∷◌, length}
 use Rattle.insn.specs.Instructions.{Instruction, Operands, nothing, byte, short, constant, index, local, increment, branch, wide_branch, invoke_interface, invoke_dynamic, new_array, multi_new_array, table_switch, lookup_switch, wide_local, wide_increment}
 
@@ -22,10 +22,11 @@ operands_size (lookup_switch padding default count pairs) = 8 + (length padding 
 operands_size (wide_local opcode n) = 3
 operands_size (wide_increment opcode n by) = 5
 
--- with its opcode
+-- an instruction has one byte more than its operands, the opcode
 abbrev pub size : Instruction → ℕ
 size i = 1 + operands_size i.operands
 
+-- the bytes of all instructions
 abbrev pub code_size : List Instruction → ℕ
 code_size [] = 0
 code_size (i ∷ is) = size i + code_size is

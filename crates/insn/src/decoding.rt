@@ -7,9 +7,9 @@ ghost use Rattle.insn.specs.Offsets.{StartsRise};
 ghost use Rattle.insn.specs.Instructions.{Instruction};
 ghost use Rattle.insn.specs.Views.{views};
 
-use crate::instructions::Instructions;
 use crate::fault::CodeFault;
 use crate::instruction::Insn;
+use crate::instructions::Instructions;
 use std::alloc::Global;
 
 /// How many instructions this code has; or the fault of the first that is none, 31 to 35. Takes no memory.

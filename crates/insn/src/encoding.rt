@@ -8,8 +8,8 @@ ghost use Rattle.insn.specs.Sizes.{operands_size, size, code_size};
 ghost use Rattle.insn.specs.Views.{operands_view, view};
 
 use crate::instruction::{Insn, Operands};
-use crate::switch::{LookupSwitch, TableSwitch};
 use crate::instruction_writing::put_insn;
+use crate::switch::{LookupSwitch, TableSwitch};
 use layout::{MAX_CODE_BYTES, WriteFault};
 use std::alloc::Global;
 

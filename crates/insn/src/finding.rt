@@ -3,9 +3,9 @@ ghost use Rattle.std.specs.Prelude.{◌≡◌, Some, None, option_map, slice_get
 ghost use Rattle.insn.specs.Offsets.{StartsRise, acts, at_offset, next_offset};
 ghost use Rattle.insn.specs.Views.{views, act_view};
 
+use crate::acts::Act;
 use crate::instruction::Insn;
 use crate::instruction_acts::act;
-use crate::acts::Act;
 
 // Where the instruction of this number begins, if there is one.
 fn start_at(list: &[(u16, Insn<'_>)], number: usize) -> Option<u16>

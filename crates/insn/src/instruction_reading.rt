@@ -1,16 +1,18 @@
 //! One instruction, read from the bytes in front. No call takes memory.
 ghost use Rattle.std.specs.Prelude.{◌≡◌, ◌≤◌, ◌-◌, ◌↔◌, Some, IfSome, IsTrue, length, take};
-ghost use Rattle.insn.specs.Code.{ReadsInstruction, TakesAlone};
-ghost use Rattle.insn.specs.Faults.{Decodes, or_cut};
+ghost use Rattle.insn.specs.Code.{ReadsInstruction};
 ghost use Rattle.insn.specs.Instructions.{operands_at, behind_opcode, instruction_at, wide_at, widened, widened_opcode, invoke_interface_at, invoke_dynamic_at, table_switch_at, table_behind, lookup_switch_at, pairs_behind, keys, rising, follows};
-ghost use Rattle.insn.specs.private.Taken.{SkipsUnconstrained, TakesNew, TakesAct, HasAct};
+ghost use Rattle.insn.specs.private.Steps.{Decodes, or_cut};
+ghost use Rattle.insn.specs.private.Taken.{SkipsUnconstrained, TakesAlone, TakesNew, TakesAct, HasAct};
 ghost use Rattle.insn.specs.Unconstrained.{HasUnconstrained};
 ghost use Rattle.insn.specs.Views.{operands_view, table_switch_view, lookup_switch_view, view};
 
 use crate::acts::{Act, Meaning};
 use crate::fault::CodeFault;
 use crate::instruction::{Insn, Operands};
-use crate::instruction_acts::{act_of_count, act_of_index, act_of_local, act_of_number, act_of_offset};
+use crate::instruction_acts::{
+    act_of_count, act_of_index, act_of_local, act_of_number, act_of_offset,
+};
 use crate::opcode::Opcode;
 use crate::switch::{LookupSwitch, Pairs, TableSwitch};
 use crate::table::{Form, row_at, unconstrained_length};

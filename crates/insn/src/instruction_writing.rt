@@ -9,8 +9,8 @@ ghost use Rattle.insn.specs.Spellings.{form_of, agrees, fills, pairs_up, AreInRa
 ghost use Rattle.insn.specs.Views.{operands_view, table_switch_view, lookup_switch_view, view};
 
 use crate::instruction::{Insn, Operands};
-use crate::opcode::Opcode;
 use crate::instruction_reading::rising;
+use crate::opcode::Opcode;
 use crate::switch::{LookupSwitch, TableSwitch};
 use crate::table::Form;
 use byteorder::{BigEndian, ByteOrder};

@@ -1,11 +1,13 @@
 //! The bytes of a method's code as instructions, one after the other. No call takes memory.
 ghost use Rattle.std.specs.Prelude.{◌≡◌};
 
+use crate::acts::Act;
 use crate::fault::CodeFault;
 use crate::instruction::{Insn, Operands};
 use crate::instruction_acts::{act, made_index};
-use crate::acts::Act;
-use crate::instruction_reading::{read_insn, skip_unconstrained, take_alone, take_common_act, take_new};
+use crate::instruction_reading::{
+    read_insn, skip_unconstrained, take_alone, take_common_act, take_new,
+};
 use layout::Cursor;
 use std::marker::Model;
 

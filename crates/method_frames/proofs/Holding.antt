@@ -6,7 +6,7 @@ use Rattle.std.proofs.lemmas.List.{length-set, length-append, length-replicate, 
 use Rattle.type_numbers.specs.Numbers.{Numbering, IsGiven}
 use Rattle.blocks.specs.Rows.{Rows, declared_row}
 use Rattle.method_frames.specs.Objects.{is_object, replaced}
-use Rattle.method_frames.specs.private.Known.{AreKnown}
+use Rattle.method_frames.specs.private.RowFacts.{AreKnown}
 use Rattle.method_frames.specs.private.Holders.{IsListed, AreListed, AreHeld, KeepsListed, Replaces}
 use Rattle.method_frames.specs.declared.holders.Holders.{Holders}
 use Rattle.method_frames.proofs.Knowing.{at_more, tops_known, taken_known, declared_known, put_known}

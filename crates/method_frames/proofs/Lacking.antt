@@ -19,7 +19,7 @@ use Rattle.blocks.specs.Rows.{Rows, declared_row}
 use Rattle.method_frames.specs.private.Lacking.{row_answers, answer_for, IsUnfit, Lacks, IsLacking}
 use Rattle.method_frames.specs.declared.type_rows.Lacking.{Lacking}
 use Rattle.method_frames.specs.NumberedRows.{NumberedRows, declared_in}
-use Rattle.method_frames.specs.private.Known.{AreKnown}
+use Rattle.method_frames.specs.private.RowFacts.{AreKnown}
 use Rattle.method_frames.proofs.Answering.{whole, at, long}
 use Rattle.method_frames.proofs.Knowing.{view_of}
 

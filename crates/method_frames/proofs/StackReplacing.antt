@@ -15,7 +15,7 @@ use Rattle.type_numbers.specs.Decoding.{type_by, types_by}
 use Rattle.method_frames.specs.Objects.{is_object, replaced}
 use Rattle.method_frames.specs.NumberedRows.{NumberedRows, declared_in}
 use Rattle.method_frames.specs.NumberedStacks.{NumberedStacks, declared_stack}
-use Rattle.method_frames.specs.private.Known.{AreGiven}
+use Rattle.method_frames.specs.private.RowFacts.{AreGiven}
 use Rattle.method_frames.specs.private.Stacks.{stacks_of, IsHeight, AreStacks}
 use Rattle.method_frames.specs.declared.stack_rows.Height.{Height}
 use Rattle.method_frames.proofs.Counting.{map_reverse}

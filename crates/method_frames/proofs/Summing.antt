@@ -8,7 +8,7 @@ use Rattle.frames.specs.FrameAssignable.{width_of}
 use Rattle.frames.specs.DeclaredFrames.{is_uninit_this, has_uninit_this}
 use Rattle.type_numbers.specs.Numbers.{Numbering}
 use Rattle.type_numbers.specs.Decoding.{type_by, types_by}
-use Rattle.method_frames.specs.private.MapLocals.{own_among, AreSummed}
+use Rattle.method_frames.specs.private.EntryLocals.{own_among, AreSummed}
 use Rattle.method_frames.proofs.Counting.{none_numbered, counted_more, counted_less}
 
 abbrev pub one_if : Bool → ℕ

@@ -1,10 +1,10 @@
 -- Words of the code's own steps, which its private contracts use: nothing that a reader must believe rests on them.
-pub mod Known
+pub mod RowFacts
 pub mod Counted
 pub mod Holders
 pub mod Lacking
 pub mod Stacks
 pub mod Frames
 pub mod Moves
-pub mod MapLocals
+pub mod EntryLocals
 pub mod MapEntries

@@ -13,12 +13,12 @@ ghost use Rattle.type_numbers.specs.Numbers.{Numbering, IsNumber, IsGiven};
 ghost use Rattle.type_numbers.specs.Decoding.{type_by, types_by};
 ghost use Rattle.method_frames.specs.MapFrames.{AreDeclared, AreMore, IsLaidOut, frames_by, refused_by};
 ghost use Rattle.method_frames.specs.NumberedFrames.{frame_by};
-ghost use Rattle.method_frames.specs.private.Known.{AreGiven};
+ghost use Rattle.method_frames.specs.private.RowFacts.{AreGiven};
 ghost use Rattle.method_frames.specs.private.MapEntries.{AreNumbers, AreRewritten, IsRestacked, Declares, locals_behind, chopped};
 
+use crate::entry_buffers::EntryBuffers;
+use crate::entry_locals::EntryLocals;
 use crate::items::append;
-use crate::map_locals::MapLocals;
-use crate::map_memory::MapMemory;
 use crate::method::MethodFrames;
 use frames::{FrameFault, Limits, MapEntry, RefusedEntry, Sizes, Starts, TypeInfo, judge_entry};
 use hierarchy::Classes;
@@ -98,7 +98,7 @@ fn stack_units(entry: &MapEntry) -> usize
 /// Puts a local after the others, in the running frame too.
 fn add<C: Classes>(
     number: u32,
-    locals: &mut MapLocals,
+    locals: &mut EntryLocals,
     frames: &mut MethodFrames<'_, '_, '_, C>,
 ) -> Result<(), AllocError>
     requires given { IsGiven frames.old.types number }
@@ -116,7 +116,7 @@ fn add<C: Classes>(
 /// Takes the last locals off until so many are left, in the running frame too.
 fn chop<C: Classes>(
     left: usize,
-    locals: &mut MapLocals,
+    locals: &mut EntryLocals,
     frames: &mut MethodFrames<'_, '_, '_, C>,
 ) -> Result<(), AllocError>
     requires laid { IsLaidOut frames.old locals.old }
@@ -151,7 +151,7 @@ fn numbers_given(
 /// Puts locals after the others, in the running frame too.
 fn append_all<C: Classes>(
     numbers: &[u32],
-    locals: &mut MapLocals,
+    locals: &mut EntryLocals,
     frames: &mut MethodFrames<'_, '_, '_, C>,
 ) -> Result<(), AllocError>
     requires given { AreGiven frames.old.types numbers.now }
@@ -168,7 +168,7 @@ fn append_all<C: Classes>(
 }
 
 /// How many locals from 0 up have these numbers.
-fn common(numbers: &[u32], locals: &MapLocals) -> usize
+fn common(numbers: &[u32], locals: &EntryLocals) -> usize
     ensures few { result ≤ length numbers.now }
     ensures same { take result locals.now ≡ take result numbers.now }
 {
@@ -185,7 +185,7 @@ fn common(numbers: &[u32], locals: &MapLocals) -> usize
 /// The locals become others, in the running frame too. Those that stay from 0 up are not written.
 fn change_all<C: Classes>(
     numbers: &[u32],
-    locals: &mut MapLocals,
+    locals: &mut EntryLocals,
     frames: &mut MethodFrames<'_, '_, '_, C>,
 ) -> Result<(), AllocError>
     requires given { AreGiven frames.old.types numbers.now }
@@ -205,7 +205,7 @@ fn write_locals<C: Classes>(
     entry: &MapEntry,
     table: &ConstantTable,
     given: &mut Vec<u32>,
-    locals: &mut MapLocals,
+    locals: &mut EntryLocals,
     frames: &mut MethodFrames<'_, '_, '_, C>,
 ) -> Result<(), AllocError>
     requires table { (pool : List Entry) × IsTable frames.old.types pool table.now }
@@ -275,7 +275,7 @@ fn write_stack<C: Classes>(
 /// Takes the locals off that an entry chops, as far as there are so many.
 fn write_chop<C: Classes>(
     entry: &MapEntry,
-    locals: &mut MapLocals,
+    locals: &mut EntryLocals,
     frames: &mut MethodFrames<'_, '_, '_, C>,
 ) -> Result<(), AllocError>
     requires laid { IsLaidOut frames.old locals.old }
@@ -301,7 +301,7 @@ fn declare_one<St: Starts, C: Classes>(
     limits: &Limits<'_, '_, St>,
     table: &ConstantTable,
     given: &mut Vec<u32>,
-    locals: &mut MapLocals,
+    locals: &mut EntryLocals,
     frames: &mut MethodFrames<'_, '_, '_, C>,
 ) -> Result<Option<FrameFault>, AllocError>
     requires table { IsTable frames.old.types limits.now.pool.now table.now }
@@ -338,7 +338,7 @@ fn declare_all<St: Starts, C: Classes>(
     limits: &Limits<'_, '_, St>,
     table: &ConstantTable,
     given: &mut Vec<u32>,
-    locals: &mut MapLocals,
+    locals: &mut EntryLocals,
     frames: &mut MethodFrames<'_, '_, '_, C>,
 ) -> Result<Result<(), RefusedEntry>, AllocError>
     requires table { IsTable frames.old.types limits.now.pool.now table.now }
@@ -374,7 +374,7 @@ fn declare_within<St: Starts, C: Classes>(
     table: &ConstantTable,
     initial: &[u32],
     given: &mut Vec<u32>,
-    locals: &mut MapLocals,
+    locals: &mut EntryLocals,
     frames: &mut MethodFrames<'_, '_, '_, C>,
 ) -> Result<Result<(), RefusedEntry>, AllocError>
     requires table { IsTable frames.old.types limits.now.pool.now table.now }
@@ -442,7 +442,7 @@ pub fn declare<St: Starts, C: Classes>(
 {
     let memory = frames.lend(alloc);
     let mut given = memory.given;
-    let mut locals = MapLocals::within(memory.locals);
+    let mut locals = EntryLocals::within(memory.locals);
     let answer = declare_within(
         entries,
         limits,
@@ -453,6 +453,6 @@ pub fn declare<St: Starts, C: Classes>(
         frames,
     )?;
     let locals = locals.into_memory();
-    frames.take_back(MapMemory { locals, given });
+    frames.take_back(EntryBuffers { locals, given });
     Ok(answer)
 }

@@ -6,7 +6,7 @@ ghost use Rattle.method_frames.specs.Objects.{is_object, replaced, holds};
 ghost use Rattle.method_frames.specs.private.Holders.{AreListed, AreListedFrom, KeepsListed};
 
 use crate::holders::{Holders, place_in};
-use crate::moves::rearrange;
+use crate::rearranging::rearrange;
 use crate::widths::{extra, wides};
 use insn::StackForm;
 use std::alloc::{AllocError, Global};

@@ -2,28 +2,30 @@
 //! declared frames, which stay as they are.
 //!
 //! - `declaring`: the frames that the entries of a stack map declare.
-//! - `holders`: the places that came to hold objects that are not initialized.
+//! - `entry_buffers`: memory for the types of an entry of a stack map, kept from method to method.
+//! - `entry_locals`: the locals of the frame that the entries of a stack map have declared so far: the next entry adds
+//!   to them or chops some.
+//! - `holders`: the places at which the running frame holds objects that are not initialized.
 //! - `items`: the items of an operand stack.
-//! - `laws`: what the numbers of objects mean, without code.
-//! - `map_locals`: the locals of the frame that an entry of a stack map declares, as the next entry finds them.
-//! - `map_memory`: memory in which the entries of stack maps are gone through.
+//! - `laws`: what the numbers of objects mean; its functions do nothing.
 //! - `method`: the frames of a method, put together of the others.
-//! - `moves`: items as the instructions for the stack move them.
 //! - `objects`: objects that are not initialized, by their numbers.
-//! - `stack_rows`: operand stacks, of the running frame and of the declared frames, and the answer of one to another.
-//! - `type_rows`: rows of types, of the running frame and of the declared frames, and the answer of one to another.
+//! - `rearranging`: how instructions such as `dup` and `swap` move items of an operand stack.
+//! - `stack_rows`: operand stacks of the running frame and of the declared frames, and whether one is assignable to
+//!   another.
+//! - `type_rows`: rows of types of the running frame and of the declared frames, and whether one is assignable to another.
 //! - `widths`: how many units types take.
 #![tactic(auto)]
 
 mod declaring;
+mod entry_buffers;
+mod entry_locals;
 mod holders;
 mod items;
 pub mod laws;
-mod map_locals;
-mod map_memory;
 mod method;
-mod moves;
 mod objects;
+mod rearranging;
 mod stack_rows;
 mod type_rows;
 mod widths;

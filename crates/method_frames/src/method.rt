@@ -1,7 +1,7 @@
 //! The running frame of a method, and its declared frames.
 ghost use Rattle.std.specs.Prelude.{◌≡◌, ◌+◌, ◌<◌, ◌^◌, ℕ, length, slice_index, OnOk};
 
-use crate::map_memory::MapMemory;
+use crate::entry_buffers::EntryBuffers;
 use crate::objects::{OWN_OBJECT, made_object};
 use crate::stack_rows::StackRows;
 use crate::type_rows::TypeRows;
@@ -50,7 +50,7 @@ pub struct MethodFrames<'t, 'c, 'n, C: Classes> {
     declared: Vec<Declared>,
     /// By offsets, the place of the declared frame, counted from 1; 0 where there is none.
     places: Vec<usize>,
-    memory: MapMemory,
+    memory: EntryBuffers,
 }
 
 impl<'t, 'c, 'n, C: Classes> Model for MethodFrames<'t, 'c, 'n, C> {
@@ -127,7 +127,7 @@ impl<'t, 'c, 'n, C: Classes> MethodFrames<'t, 'c, 'n, C> {
             flag,
             declared: Vec::with_capacity(alloc, FIRST_FRAMES)?,
             places: Vec::with_capacity(alloc, FIRST_PLACES)?,
-            memory: MapMemory::new(alloc),
+            memory: EntryBuffers::new(alloc),
         })
     }
 
@@ -151,14 +151,14 @@ impl<'t, 'c, 'n, C: Classes> MethodFrames<'t, 'c, 'n, C> {
     }
 
     /// Lends the memory in which the entries of a stack map are gone through.
-    pub(crate) fn lend(&mut self, alloc: Global) -> MapMemory
+    pub(crate) fn lend(&mut self, alloc: Global) -> EntryBuffers
         ensures { self.new ≡ self.old }
     {
-        mem::replace(&mut self.memory, MapMemory::new(alloc))
+        mem::replace(&mut self.memory, EntryBuffers::new(alloc))
     }
 
     /// Takes the memory back that was lent.
-    pub(crate) fn take_back(&mut self, memory: MapMemory)
+    pub(crate) fn take_back(&mut self, memory: EntryBuffers)
         ensures { self.new ≡ self.old }
     {
         self.memory = memory;

@@ -1,6 +1,6 @@
 //! Operand stacks: of the running frame of a method, and of its declared frames.
 ghost use Rattle.std.specs.Prelude.{◌≡◌, ◌≤◌, length, take, reverse, OnOk};
-ghost use Rattle.method_frames.specs.private.Known.{AreGiven};
+ghost use Rattle.method_frames.specs.private.RowFacts.{AreGiven};
 ghost use Rattle.method_frames.specs.private.Stacks.{Changes, Holds};
 
 use crate::items::Items;

@@ -7,10 +7,10 @@ ghost use Rattle.type_numbers.specs.Decoding.{type_by};
 ghost use Rattle.method_frames.specs.private.Counted.{IsCounted};
 
 /// The tag with which the number of a double begins.
-const DOUBLE: u32 = 3;
+const DOUBLE_TAG: u32 = 3;
 
 /// The tag with which the number of a long begins.
-const LONG: u32 = 4;
+const LONG_TAG: u32 = 4;
 
 /// Whether the type of a number is a long or a double.
 #[inline(always)]
@@ -18,7 +18,7 @@ pub fn is_wide(number: u32) -> bool
     ensures { (s : Numbering) → result ≡ is_wide (type_by s number) }
 {
     let tag = number / 0x0100_0000;
-    tag == DOUBLE || tag == LONG
+    tag == DOUBLE_TAG || tag == LONG_TAG
 }
 
 /// How many units an item takes beyond the first, by the number of its type.

@@ -25,7 +25,7 @@ use Rattle.rules.specs.Rules.{is_reference, is_short, operands}
 use Rattle.rules.specs.Outcomes.{TookOff}
 use Rattle.numbered_rules.specs.declared.expected.Expected.{Expected}
 use Rattle.numbered_rules.specs.Expected.{accepts_by, objects, own_or, StandsFor}
-use Rattle.numbered_rules.specs.Held.{held}
+use Rattle.numbered_rules.specs.RunningFrame.{held}
 use Rattle.numbered_rules.specs.private.Kinds.{holds_references}
 use Rattle.numbered_rules.specs.private.Taking.{AreMet}
 

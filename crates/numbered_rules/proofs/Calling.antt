@@ -26,7 +26,7 @@ use Rattle.rules.specs.After.{with_stack}
 use Rattle.rules.specs.Rules.{accepts, is_short}
 use Rattle.rules.specs.Outcomes.{Took, TookOff, pushed}
 use Rattle.rules.proofs.Taking.{Rest, RestOff, rest_more, rest_end, others_kept}
-use Rattle.numbered_rules.specs.Held.{held, IsRunning}
+use Rattle.numbered_rules.specs.RunningFrame.{held, IsRunning}
 use Rattle.numbered_rules.specs.private.Calls.{receivers, IsOneTaken}
 use Rattle.numbered_rules.proofs.Taking.{running_same, running_then, types_stay}
 

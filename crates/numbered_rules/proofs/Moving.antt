@@ -25,7 +25,7 @@ use Rattle.rules.specs.After.{after, fits_place, fits_places, is_narrow}
 use Rattle.rules.specs.Rules.{conditions}
 use Rattle.rules.specs.Outcomes.{Done, pushed, settled}
 use Rattle.rules.proofs.Settling.{moves_done}
-use Rattle.numbered_rules.specs.Held.{held}
+use Rattle.numbered_rules.specs.RunningFrame.{held}
 
 -- ---- places from one on
 

@@ -21,7 +21,7 @@ use Rattle.rules.specs.Outcomes.{pushed}
 use Rattle.rules.specs.Replacing.{initialized_frame}
 use Rattle.rules.specs.Rules.{is_on_stack, may_construct}
 use Rattle.rules.specs.After.{with_locals}
-use Rattle.numbered_rules.specs.Held.{held, IsRunning}
+use Rattle.numbered_rules.specs.RunningFrame.{held, IsRunning}
 use Rattle.numbered_rules.proofs.Taking.{IsUnder, under_held, under_running, running_then, types_stay}
 
 -- the object that `new` made is on a stack

@@ -12,7 +12,7 @@ use Rattle.rules.specs.TypingRules.{gives}
 use Rattle.rules.specs.Table.{typing_rule}
 use Rattle.rules.specs.Outcomes.{Done, pushed, settled}
 use Rattle.rules.proofs.Settling.{off_done}
-use Rattle.numbered_rules.specs.Held.{held}
+use Rattle.numbered_rules.specs.RunningFrame.{held}
 use Rattle.numbered_rules.specs.Pushing.{IsPush}
 
 pub gives_pushes : (m : Method Act) (x : NumberedFrames) (n : ℕ) (t : VerificationType) → IsNumber x.types n t → IsPush m (gives t) x n

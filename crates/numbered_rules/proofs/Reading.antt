@@ -17,7 +17,7 @@ use Rattle.rules.specs.After.{or_top, local_of, after}
 use Rattle.rules.specs.Rules.{accepts, conditions, is_outside, is_too_wide}
 use Rattle.rules.specs.Outcomes.{Done, settled}
 use Rattle.rules.proofs.Settling.{redone, local_no, local_settled}
-use Rattle.numbered_rules.specs.Held.{held}
+use Rattle.numbered_rules.specs.RunningFrame.{held}
 
 typed_at : (s : Numbering) (row : List ℕ) (n : ℕ) → or_top (slice_get (types_by s row) n) ≡ type_by s (slice_index row n)
 typed_at s [] n = refl

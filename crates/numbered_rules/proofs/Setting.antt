@@ -11,7 +11,7 @@ use Rattle.rules.specs.After.{stored_type}
 use Rattle.rules.specs.Views.{with_half_free}
 use Rattle.rules.specs.After.{with_locals}
 use Rattle.rules.proofs.Storing.{free_first, free_wide, free_narrow, store_narrow, store_last, store_wide}
-use Rattle.numbered_rules.specs.Held.{held}
+use Rattle.numbered_rules.specs.RunningFrame.{held}
 
 types_or : (s : Numbering) (row : List ℕ) (p : ℕ) → get_or (types_by s row) p top ≡ type_by s (get_or row p 0)
 types_or s [] p = refl

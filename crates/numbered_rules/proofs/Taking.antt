@@ -15,7 +15,7 @@ use Rattle.rules.specs.Outcomes.{TookOff, pushed}
 use Rattle.rules.proofs.Taking.{Rest, RestOff, rest_step, rest_none, off_end, others_kept}
 use Rattle.numbered_rules.specs.declared.expected.Expected.{Expected}
 use Rattle.numbered_rules.specs.Expected.{accepts_by, StandsFor}
-use Rattle.numbered_rules.specs.Held.{held, IsRunning}
+use Rattle.numbered_rules.specs.RunningFrame.{held, IsRunning}
 
 -- ---- lists, place by place
 

@@ -1,5 +1,5 @@
 pub mod Expected
-pub mod Held
+pub mod RunningFrame
 pub mod Pushing
 pub mod private
-pub mod Running
+pub mod RuleNumbers

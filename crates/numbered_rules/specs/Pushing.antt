@@ -12,7 +12,7 @@ use Rattle.rules.specs.TypingRules.{TypingRule}
 use Rattle.rules.specs.After.{after}
 use Rattle.rules.specs.Rules.{conditions}
 use Rattle.rules.specs.Outcomes.{Done, pushed, settled}
-use Rattle.numbered_rules.specs.Held.{held}
+use Rattle.numbered_rules.specs.RunningFrame.{held}
 
 -- a rule pushes the type of this number, and asks for no more than room on the stack
 pub record IsPush (m : Method Act) (p : TypingRule) (x : NumberedFrames) (n : ℕ) : Type 0 where

@@ -11,7 +11,7 @@ ghost use Rattle.rules.specs.TypingRules.{arguments_on};
 ghost use Rattle.rules.specs.Rules.{is_short};
 ghost use Rattle.rules.specs.Outcomes.{TookOff};
 ghost use Rattle.numbered_rules.specs.private.Calls.{receivers, IsOneTaken};
-ghost use Rattle.numbered_rules.specs.Held.{held, IsRunning};
+ghost use Rattle.numbered_rules.specs.RunningFrame.{held, IsRunning};
 
 use crate::expected::Expected;
 use frames::both;

@@ -14,10 +14,10 @@ ghost use Rattle.rules.specs.Rules.{conditions};
 ghost use Rattle.rules.specs.Bodies.{method_view};
 ghost use Rattle.rules.specs.Outcomes.{Done};
 ghost use Rattle.numbered_rules.specs.Expected.{objects};
-ghost use Rattle.numbered_rules.specs.Held.{held, IsRunning};
+ghost use Rattle.numbered_rules.specs.RunningFrame.{held, IsRunning};
 
 use crate::expected::{Expected, holds_references};
-use crate::kinds::{NULL, TOP, number_of};
+use crate::fixed_numbers::{NULL, TOP, number_of};
 use crate::shared_rules::pops;
 use classfile::CodeMethod;
 use hierarchy::Classes;

@@ -15,11 +15,11 @@ ghost use Rattle.rules.specs.After.{after};
 ghost use Rattle.rules.specs.Rules.{conditions};
 ghost use Rattle.rules.specs.Bodies.{method_view};
 ghost use Rattle.rules.specs.Outcomes.{Done};
-ghost use Rattle.numbered_rules.specs.Held.{held, IsRunning};
+ghost use Rattle.numbered_rules.specs.RunningFrame.{held, IsRunning};
 
 use crate::arguments::take_arguments;
-use crate::class_names::dimensions;
-use crate::named::{NamedMethod, method_at, site_at};
+use crate::casts_and_arrays::dimensions;
+use crate::named_constants::{NamedMethod, method_at, site_at};
 use crate::shared_rules::settle;
 use classfile::CodeMethod;
 use hierarchy::{Answer, Classes};
@@ -28,7 +28,7 @@ use rules::Reason;
 use type_numbers::{ConstantTable, MethodNumbers};
 
 /// A call of a method of these types, with its arguments on a receiver, if it has one. Its refusals are 61 and 62,
-/// those of [`judge_left`](crate::judge_left), and 1 where memory runs out.
+/// those of [`judge_frame_after`](crate::judge_frame_after), and 1 where memory runs out.
 fn calls<'n, C: Classes>(
     method: &CodeMethod<'_, '_>,
     called: MethodNumbers,

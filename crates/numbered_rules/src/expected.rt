@@ -8,12 +8,27 @@ ghost use Rattle.numbered_rules.specs.declared.expected.Expected.{Expected};
 ghost use Rattle.numbered_rules.specs.Expected.{accepts_by, number_asked, IsExpected, StandsFor};
 ghost use Rattle.numbered_rules.specs.private.Kinds.{holds_references_by, is_array_by, is_array_for_by, is_own_by, is_reference_by};
 
-use crate::kinds::number_of;
+use crate::fixed_numbers::number_of;
 use hierarchy::{Answer, Classes};
 use insn::{Kind, takes_array};
 use method_frames::is_object;
 use names::Primitive;
 use type_numbers::{Parts, TypeNumbers, element_at};
+
+/// The highest tag of a type that is no reference: top, `int`, `float`, `double` and `long` have the tags up to it.
+const LAST_VALUE_TAG: u8 = 4;
+
+/// The tag of null.
+const NULL_TAG: u8 = 5;
+
+/// The tag of the own object that is not initialized.
+const OWN_TAG: u8 = 6;
+
+/// The tag of a class in the hierarchy, and of arrays of one.
+const CLASS_TAG: u8 = 7;
+
+/// The tag of arrays of primitive types. The tags above it are those of absent classes and of arrays of them.
+const PRIMITIVE_ARRAY_TAG: u8 = 9;
 
 /// The expected type of an operand or a local variable (JVMS 4.10.1.9). A number of some kind is a type that is
 /// assignable to the type of this kind.
@@ -67,14 +82,22 @@ impl Asked for Kind {
 pub fn is_reference(parts: Parts) -> bool
     ensures { result ≡ is_reference_by parts.tag }
 {
-    parts.tag > 4
+    parts.tag > LAST_VALUE_TAG
+}
+
+/// Whether a type is that of a class or of arrays of one, by the parts of its number.
+#[inline(always)]
+fn is_class(parts: Parts) -> bool
+    ensures { result ≡ (nat_eq parts.tag 7 || nat_lt 9 parts.tag) }
+{
+    parts.tag == CLASS_TAG || parts.tag > PRIMITIVE_ARRAY_TAG
 }
 
 /// Whether a type is that of an array, or null, by the parts of its number.
 fn is_array(parts: Parts) -> bool
     ensures { result ≡ is_array_by parts.tag parts.dims }
 {
-    parts.tag == 5 || parts.tag == 9 || (parts.tag == 7 || parts.tag > 9) && parts.dims > 0
+    parts.tag == NULL_TAG || parts.tag == PRIMITIVE_ARRAY_TAG || is_class(parts) && parts.dims > 0
 }
 
 /// Whether a type is null, or that of an array whose elements an instruction for the primitive type takes, by the parts
@@ -82,8 +105,10 @@ fn is_array(parts: Parts) -> bool
 fn is_array_for(primitive: Primitive, parts: Parts) -> bool
     ensures { result ≡ is_array_for_by primitive parts.tag parts.dims parts.rest }
 {
-    parts.tag == 5
-        || parts.tag == 9 && parts.dims < 2 && takes_array(primitive, element_at(parts.rest))
+    parts.tag == NULL_TAG
+        || parts.tag == PRIMITIVE_ARRAY_TAG
+            && parts.dims < 2
+            && takes_array(primitive, element_at(parts.rest))
 }
 
 /// Whether a type is that of an array of references, by the parts of its number.
@@ -91,14 +116,14 @@ fn is_array_for(primitive: Primitive, parts: Parts) -> bool
 pub fn holds_references(parts: Parts) -> bool
     ensures { result ≡ holds_references_by parts.tag parts.dims }
 {
-    parts.tag == 9 && parts.dims > 1 || (parts.tag == 7 || parts.tag > 9) && parts.dims > 0
+    parts.tag == PRIMITIVE_ARRAY_TAG && parts.dims > 1 || is_class(parts) && parts.dims > 0
 }
 
 /// Whether a type is that of the own object that is not initialized, by the parts of its number.
 fn is_own(parts: Parts) -> bool
     ensures { result ≡ is_own_by parts.tag }
 {
-    parts.tag == 6
+    parts.tag == OWN_TAG
 }
 
 impl Expected {

@@ -8,10 +8,10 @@ ghost use Rattle.rules.specs.After.{after};
 ghost use Rattle.rules.specs.Rules.{conditions};
 ghost use Rattle.rules.specs.Bodies.{method_view};
 ghost use Rattle.rules.specs.Outcomes.{Done};
-ghost use Rattle.numbered_rules.specs.Held.{held, IsRunning};
+ghost use Rattle.numbered_rules.specs.RunningFrame.{held, IsRunning};
 
 use crate::expected::Expected;
-use crate::named::field_at;
+use crate::named_constants::field_at;
 use crate::shared_rules::{gives, pops};
 use classfile::CodeMethod;
 use hierarchy::Classes;

@@ -10,11 +10,11 @@ ghost use Rattle.rules.specs.Rules.{conditions};
 ghost use Rattle.rules.specs.Bodies.{method_view};
 ghost use Rattle.rules.specs.Outcomes.{Done};
 ghost use Rattle.numbered_rules.specs.Expected.{IsExpected, StandsFor};
-ghost use Rattle.numbered_rules.specs.Held.{held, IsRunning};
+ghost use Rattle.numbered_rules.specs.RunningFrame.{held, IsRunning};
 ghost use Rattle.numbered_rules.specs.Pushing.{IsPush};
 
 use crate::expected::Expected;
-use crate::kinds::{NULL, number_of};
+use crate::fixed_numbers::{NULL, number_of};
 use crate::shared_rules::give;
 use crate::stacks::is_narrow;
 use classfile::CodeMethod;

@@ -8,10 +8,10 @@ ghost use Rattle.rules.specs.After.{after};
 ghost use Rattle.rules.specs.Rules.{conditions};
 ghost use Rattle.rules.specs.Bodies.{method_view};
 ghost use Rattle.rules.specs.Outcomes.{Done};
-ghost use Rattle.numbered_rules.specs.Held.{held, IsRunning};
+ghost use Rattle.numbered_rules.specs.RunningFrame.{held, IsRunning};
 
 use crate::expected::{Expected, is_reference};
-use crate::shared_rules::{judge_left, pops};
+use crate::shared_rules::{judge_frame_after, pops};
 use classfile::CodeMethod;
 use hierarchy::{Answer, Classes};
 use insn::Kind;
@@ -30,7 +30,7 @@ fn returns<'n, C: Classes>(
     if method.is_init && frames.flag() {
         return Err(Reason::OwnObjectNotReady);
     }
-    judge_left(method, Answer::Yes, frames)
+    judge_frame_after(method, Answer::Yes, frames)
 }
 
 /// `return` (JVMS 4.10.1.9). Its refusals are 76 where the method has a result, 74 where the own object is not

@@ -8,28 +8,28 @@ ghost use Rattle.rules.specs.Bodies.{method_view};
 ghost use Rattle.rules.specs.Naming.{names_bootstrapped, sets_own};
 ghost use Rattle.rules.specs.Ways.{is_plain};
 ghost use Rattle.rules.specs.Outcomes.{Done};
-ghost use Rattle.numbered_rules.specs.Held.{held, IsRunning};
-ghost use Rattle.numbered_rules.specs.Running.{AreRuleNumbers};
+ghost use Rattle.numbered_rules.specs.RunningFrame.{held, IsRunning};
+ghost use Rattle.numbered_rules.specs.RuleNumbers.{AreRuleNumbers};
 
 use crate::arrays::{
     load_element, load_reference_element, new_array, store_element, store_reference_element,
 };
 use crate::body::Body;
 use crate::calls::{invoke_dynamic, invoke_interface, invoke_static, invoke_virtual};
-use crate::class_names::{check_cast, instance_of, new_multi_array, new_reference_array};
+use crate::casts_and_arrays::{check_cast, instance_of, new_multi_array, new_reference_array};
 use crate::constants::loads_constant;
 use crate::fields::{get_field, get_static, put_field, put_static};
-use crate::making::new_object;
+use crate::object_creation::new_object;
 use crate::returning::{return_nothing, return_number, return_reference};
 use crate::rule_numbers::{NamedFacts, RuleNumbers};
 use crate::shared_rules::counts;
-use crate::special_calls::invoke_special;
-use crate::stacks::rearranges;
-use crate::values::{
+use crate::simple_rules::{
     array_length, computes, gives_null, gives_number, loads_number, loads_reference, stores_number,
     stores_reference, takes_int, takes_ints, takes_nothing, takes_reference, takes_references,
     throws,
 };
+use crate::special_calls::invoke_special;
+use crate::stacks::rearranges;
 use classfile::CodeMethod;
 use hierarchy::Classes;
 use insn::Act;
@@ -126,7 +126,7 @@ pub fn run_plain<'n, C: Classes>(
         Act::LoadReference { local } => loads_reference(method, local, frames),
         Act::Store { kind, local } => stores_number(method, kind, local, frames),
         Act::StoreReference { local } => stores_reference(method, local, frames),
-        Act::Increment { local } => counts(method, local, frames),
+        Act::Increment { local } => increments(method, local, frames),
         Act::Numeric(operator) => computes(method, operator, frames),
         Act::Stack(operator) => rearranges(method, operator, frames),
         Act::LoadElement(element) => load_element(method, element, frames),

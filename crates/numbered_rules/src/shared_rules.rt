@@ -11,10 +11,10 @@ ghost use Rattle.rules.specs.Rules.{conditions};
 ghost use Rattle.rules.specs.Bodies.{method_view};
 ghost use Rattle.rules.specs.Outcomes.{Done, pushed, settled};
 ghost use Rattle.numbered_rules.specs.Expected.{AreExpected, IsExpected, StandsFor, types_given};
-ghost use Rattle.numbered_rules.specs.Held.{held, IsRunning};
+ghost use Rattle.numbered_rules.specs.RunningFrame.{held, IsRunning};
 
 use crate::expected::{Asked, Expected};
-use crate::kinds::INT;
+use crate::fixed_numbers::INT;
 use crate::operands::{take, took_at_once};
 use classfile::CodeMethod;
 use hierarchy::{Answer, Classes};
@@ -32,7 +32,7 @@ fn is_wider<C: Classes>(limit: u16, frames: &MethodFrames<'_, '_, '_, C>) -> boo
 /// Judges the frame after an instruction: 65 where its stack is wider than max_stack, and 77 where the answer about the
 /// operands is a missing class. The answer is not no.
 #[inline(always)]
-pub fn judge_left<'n, C: Classes>(
+pub fn judge_frame_after<'n, C: Classes>(
     method: &CodeMethod<'_, '_>,
     answer: Answer<'n>,
     frames: &MethodFrames<'_, '_, 'n, C>,
@@ -63,7 +63,7 @@ pub fn give<'n, C: Classes>(
     ensures rest { IsRunning frames.old frames.new }
 {
     frames.push(number)?;
-    judge_left(method, answer, frames)
+    judge_frame_after(method, answer, frames)
 }
 
 /// Pushes the result of an instruction, if it has one, and judges the frame after it.
@@ -81,7 +81,7 @@ pub fn settle<'n, C: Classes>(
 {
     match gives {
         Some(number) => give(method, answer, number, frames),
-        None => judge_left(method, answer, frames),
+        None => judge_frame_after(method, answer, frames),
     }
 }
 
@@ -101,7 +101,7 @@ pub fn gives<'n, C: Classes>(
 }
 
 /// Pops operands of the expected types, the top one first, and pushes a result (JVMS 4.10.1.9). Its refusals are 61
-/// and 62, those of [`judge_left`], and 1 where memory runs out.
+/// and 62, those of [`judge_frame_after`], and 1 where memory runs out.
 #[inline(always)]
 pub fn pops<'n, A: Asked, C: Classes>(
     method: &CodeMethod<'_, '_>,
@@ -148,7 +148,7 @@ fn pops_judged<'n, A: Asked, C: Classes>(
     }
 }
 
-/// Pushes a local variable (JVMS 4.10.1.9). Its refusals are 63 and 64, those of [`judge_left`], and 1 where memory
+/// Pushes a local variable (JVMS 4.10.1.9). Its refusals are 63 and 64, those of [`judge_frame_after`], and 1 where memory
 /// runs out.
 pub fn loads<'n, C: Classes>(
     method: &CodeMethod<'_, '_>,
@@ -179,7 +179,7 @@ pub fn loads<'n, C: Classes>(
 }
 
 /// Changes the `int` in a local variable: `iinc` (JVMS 4.10.1.9). Its refusals are those of [`loads`] but 1.
-pub fn counts<'n, C: Classes>(
+pub fn increments<'n, C: Classes>(
     method: &CodeMethod<'_, '_>,
     local: u16,
     frames: &MethodFrames<'_, '_, 'n, C>,
@@ -195,6 +195,6 @@ pub fn counts<'n, C: Classes>(
     let answer = Expected::Assignable(INT).meets(frames.local(place), frames.types());
     match answer {
         Answer::No => Err(Reason::WrongLocal),
-        _ => judge_left(method, answer, frames),
+        _ => judge_frame_after(method, answer, frames),
     }
 }

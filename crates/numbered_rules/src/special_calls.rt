@@ -12,14 +12,14 @@ ghost use Rattle.rules.specs.After.{after};
 ghost use Rattle.rules.specs.Rules.{conditions};
 ghost use Rattle.rules.specs.Bodies.{method_view};
 ghost use Rattle.rules.specs.Outcomes.{Done};
-ghost use Rattle.numbered_rules.specs.Held.{held, IsRunning};
-ghost use Rattle.numbered_rules.specs.Running.{AreRuleNumbers};
+ghost use Rattle.numbered_rules.specs.RunningFrame.{held, IsRunning};
+ghost use Rattle.numbered_rules.specs.RuleNumbers.{AreRuleNumbers};
 
 use crate::arguments::take_arguments;
 use crate::body::Body;
 use crate::calls::{has_room_for_receiver, is_of_class, may_name};
-use crate::constructing::invoke_constructor;
-use crate::named::{NamedMethod, method_at};
+use crate::constructor_calls::invoke_constructor;
+use crate::named_constants::{NamedMethod, method_at};
 use crate::shared_rules::settle;
 use classfile::CodeMethod;
 use frames::both;

@@ -9,10 +9,10 @@ ghost use Rattle.rules.specs.After.{after, fits_place, fits_places, form_for};
 ghost use Rattle.rules.specs.Rules.{conditions};
 ghost use Rattle.rules.specs.Bodies.{method_view};
 ghost use Rattle.rules.specs.Outcomes.{Done};
-ghost use Rattle.numbered_rules.specs.Held.{held, IsRunning};
+ghost use Rattle.numbered_rules.specs.RunningFrame.{held, IsRunning};
 ghost use Rattle.numbered_rules.specs.private.Kinds.{is_narrow_by};
 
-use crate::shared_rules::judge_left;
+use crate::shared_rules::judge_frame_after;
 use classfile::CodeMethod;
 use hierarchy::{Answer, Classes};
 use insn::{StackForm, StackOperator, StackPlace};
@@ -88,7 +88,7 @@ pub fn rearranges<'n, C: Classes>(
         None => Err(Reason::WrongOperand),
         Some(form) => {
             frames.rearrange(form)?;
-            judge_left(method, Answer::Yes, frames)
+            judge_frame_after(method, Answer::Yes, frames)
         }
     }
 }

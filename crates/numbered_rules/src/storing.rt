@@ -6,17 +6,17 @@ ghost use Rattle.rules.specs.Rules.{conditions};
 ghost use Rattle.rules.specs.Bodies.{method_view};
 ghost use Rattle.rules.specs.Outcomes.{Done};
 ghost use Rattle.numbered_rules.specs.Expected.{IsExpected, StandsFor};
-ghost use Rattle.numbered_rules.specs.Held.{held, IsRunning};
+ghost use Rattle.numbered_rules.specs.RunningFrame.{held, IsRunning};
 
 use crate::expected::Expected;
-use crate::shared_rules::judge_left;
-use crate::slots::store;
+use crate::local_writes::store;
+use crate::shared_rules::judge_frame_after;
 use classfile::CodeMethod;
 use hierarchy::{Answer, Classes};
 use method_frames::MethodFrames;
 use rules::Reason;
 
-/// The top of the stack to a local variable (JVMS 4.10.1.9). Its refusals are 61, 62 and 64, those of `judge_left`, and
+/// The top of the stack to a local variable (JVMS 4.10.1.9). Its refusals are 61, 62 and 64, those of `judge_frame_after`, and
 /// 1 where memory runs out.
 #[inline(always)]
 pub fn stores<'n, C: Classes>(
@@ -47,7 +47,7 @@ pub fn stores<'n, C: Classes>(
                 return Err(Reason::LocalOutOfRange);
             }
             store(number, place, frames)?;
-            judge_left(method, answer, frames)
+            judge_frame_after(method, answer, frames)
         }
     }
 }

@@ -17,8 +17,8 @@ use Rattle.frames.specs.Conditions.{Conditions, least}
 use Rattle.type_numbers.specs.Numbers.{Numbering}
 use Rattle.method_frames.specs.MapFrames.{frames_by}
 use Rattle.method_frames.specs.NumberedFrames.{NumberedFrames}
-use Rattle.numbered_rules.specs.Held.{held, IsRunning}
-use Rattle.numbered_rules.specs.Running.{AreRuleNumbers}
+use Rattle.numbered_rules.specs.RunningFrame.{held, IsRunning}
+use Rattle.numbered_rules.specs.RuleNumbers.{AreRuleNumbers}
 use Rattle.numbered_rules.specs.declared.body.Body.{Body}
 use Rattle.numbered_rules.proofs.Taking.{types_stay}
 use Rattle.rules.specs.Bodies.{method_view}

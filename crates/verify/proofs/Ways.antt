@@ -21,7 +21,7 @@ use Rattle.type_numbers.specs.Decoding.{type_by}
 use Rattle.type_numbers.proofs.Decoded.{number_read}
 use Rattle.method_frames.specs.NumberedFrames.{NumberedFrames, frame_by, declared_frame}
 use Rattle.method_frames.specs.MapFrames.{frames_by}
-use Rattle.numbered_rules.specs.Held.{held}
+use Rattle.numbered_rules.specs.RunningFrame.{held}
 use Rattle.rules.specs.After.{with_stack}
 use Rattle.verify.specs.TypeSafety.{caught_frame}
 use Rattle.verify.specs.DifferencesAt.{DifferenceAtFact, sought_difference, placed, from_declared, at_target, at_targets, at_handler, at_handlers}

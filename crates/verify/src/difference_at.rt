@@ -16,7 +16,7 @@ ghost use Rattle.type_numbers.specs.Decoding.{type_by};
 ghost use Rattle.type_numbers.specs.Numbers.{IsGiven};
 ghost use Rattle.method_frames.specs.NumberedFrames.{frame_by, declared_frame};
 ghost use Rattle.method_frames.specs.MapFrames.{frames_by};
-ghost use Rattle.numbered_rules.specs.Held.{held};
+ghost use Rattle.numbered_rules.specs.RunningFrame.{held};
 ghost use Rattle.rules.specs.After.{with_stack};
 ghost use Rattle.rules.specs.Table.{typing_rule};
 ghost use Rattle.rules.specs.TypingRules.{targets};

@@ -3,7 +3,7 @@ ghost use Rattle.std.specs.Prelude.{◌≡◌, ◌≢◌, Some, List, IfOk};
 ghost use Rattle.classfile.specs.Methods.{ExceptionEntry};
 ghost use Rattle.type_numbers.specs.Numbers.{Numbering};
 ghost use Rattle.method_frames.specs.MapFrames.{frames_by};
-ghost use Rattle.numbered_rules.specs.Running.{AreRuleNumbers};
+ghost use Rattle.numbered_rules.specs.RuleNumbers.{AreRuleNumbers};
 ghost use Rattle.rules.specs.Bodies.{method_view};
 ghost use Rattle.rules.specs.declared.reason.Reason.TheVariants.{OutOfMemory};
 ghost use Rattle.verify.specs.DifferencesAt.{first_refused, first_covering};

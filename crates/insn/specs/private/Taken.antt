@@ -7,10 +7,18 @@ use Rattle.insn.specs.declared.opcode.Opcode.TheVariants.{New}
 use Rattle.insn.specs.declared.acts.Act.{Act}
 use Rattle.insn.specs.declared.acts.Meaning.{Meaning}
 use Rattle.insn.specs.declared.table.Form.{Form}
+use Rattle.insn.specs.declared.table.Form.TheVariants as forms
 use Rattle.insn.specs.Code.{SpellsInstruction, modified}
-use Rattle.insn.specs.Instructions.{Instruction, Operands, index, operands_at}
+use Rattle.insn.specs.Instructions.{Instruction, Operands, index, nothing, operands_at}
 use Rattle.insn.specs.Meanings.{act, act_of, made_index}
+use Rattle.insn.specs.Opcodes.{form}
 use Rattle.insn.specs.Views.{act_view}
+
+-- An instruction without operands was taken, and the place is after it; or nothing was, and the place is where it was.
+abbrev pub TakesAlone : Place → Place → Option Opcode → Type 0
+TakesAlone old new (Some o) = (form o ≡ forms.Nothing) × (first : List ℕ)
+    × SpellsInstruction old.at first (record { opcode = o; operands = nothing }) × Took first old new
+TakesAlone old new None = new ≡ old
 
 -- An instruction that makes no object was taken, and the place is after it; or nothing was, and the place is where it
 -- was.

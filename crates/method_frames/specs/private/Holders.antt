@@ -6,7 +6,7 @@ use Rattle.std.specs.BTreeMap.{is_at}
 use Rattle.type_numbers.specs.Numbers.{Numbering}
 use Rattle.blocks.specs.Rows.{Rows, declared_row}
 use Rattle.method_frames.specs.Objects.{is_object, replaced}
-use Rattle.method_frames.specs.private.Known.{AreKnown}
+use Rattle.method_frames.specs.private.RowFacts.{AreKnown}
 use Rattle.method_frames.specs.private.Counted.{IsCounted}
 use Rattle.method_frames.specs.declared.holders.Holders.{Holders}
 

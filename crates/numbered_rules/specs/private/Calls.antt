@@ -9,7 +9,7 @@ use Rattle.type_numbers.specs.Decoding.{type_by}
 use Rattle.method_frames.specs.NumberedFrames.{NumberedFrames}
 use Rattle.rules.specs.TypingRules.{ExpectedType, assignable_to}
 use Rattle.rules.specs.Outcomes.{pushed}
-use Rattle.numbered_rules.specs.Held.{held}
+use Rattle.numbered_rules.specs.RunningFrame.{held}
 
 -- the receiver of a call, beneath its arguments
 abbrev pub receivers : Option ReferenceType → List ExpectedType

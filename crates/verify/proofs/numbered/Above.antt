@@ -20,7 +20,7 @@ use Rattle.type_numbers.proofs.Decoded.{number_read}
 use Rattle.type_numbers.proofs.PlacedClasses.{placed}
 use Rattle.rules.specs.Guards.{IsReference, field, method}
 use Rattle.rules.specs.Protected.{Use, used_by}
-use Rattle.numbered_rules.specs.Running.{AreRuleNumbers}
+use Rattle.numbered_rules.specs.RuleNumbers.{AreRuleNumbers}
 use Rattle.numbered_rules.specs.declared.rule_numbers.RuleNumbers.{RuleNumbers}
 use Rattle.verify.specs.private.pass.Objects.{member_class_of, used_index}
 use Rattle.verify.proofs.numbered.Objects.{used_at}

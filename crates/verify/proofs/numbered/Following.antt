@@ -17,7 +17,7 @@ use Rattle.type_numbers.proofs.Decoded.{number_read}
 use Rattle.method_frames.specs.NumberedFrames.{NumberedFrame, NumberedFrames, frame_by, declared_frame}
 use Rattle.method_frames.specs.MapFrames.{frames_by}
 use Rattle.rules.specs.declared.reason.Reason.{Reason}
-use Rattle.numbered_rules.specs.Held.{held}
+use Rattle.numbered_rules.specs.RunningFrame.{held}
 use Rattle.rules.specs.After.{with_stack}
 use Rattle.rules.specs.Outcomes.{Judges}
 use Rattle.verify.specs.TypeSafety.{caught_frame}

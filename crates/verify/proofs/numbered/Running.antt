@@ -13,8 +13,8 @@ use Rattle.rules.specs.Outcomes.{Done, Judges}
 use Rattle.rules.specs.TypingRules.{TypingRule}
 use Rattle.verify.specs.Verdict.{at_conditions, target_conditions}
 use Rattle.verify.specs.private.JudgingSteps.{Enters}
-use Rattle.numbered_rules.specs.Held.{held, IsRunning}
-use Rattle.numbered_rules.specs.Running.{AreRuleNumbers}
+use Rattle.numbered_rules.specs.RunningFrame.{held, IsRunning}
+use Rattle.numbered_rules.specs.RuleNumbers.{AreRuleNumbers}
 use Rattle.numbered_rules.specs.declared.rule_numbers.RuleNumbers.{RuleNumbers}
 use Rattle.verify.specs.declared.pass.handlers.Handlers.{Handlers}
 use Rattle.verify.specs.private.pass.Following.{Follows, IsOnward}

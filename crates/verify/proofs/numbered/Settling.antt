@@ -15,7 +15,7 @@ use Rattle.type_numbers.specs.Numbers.{Numbering}
 use Rattle.type_numbers.specs.Decoding.{type_by, types_by}
 use Rattle.method_frames.specs.NumberedFrames.{NumberedFrame, NumberedFrames, frame_by}
 use Rattle.method_frames.specs.MapFrames.{frames_by}
-use Rattle.numbered_rules.specs.Held.{held}
+use Rattle.numbered_rules.specs.RunningFrame.{held}
 use Rattle.verify.specs.TypeSafety.{caught_frame}
 use Rattle.verify.specs.Verdict.{handler_conditions, one_handler, is_covered}
 use Rattle.verify.specs.private.Catching.{answer_at}

@@ -8,7 +8,7 @@ use Rattle.frames.specs.FrameAssignable.{frame_answer}
 use Rattle.frames.specs.Conditions.{is_no, reason, least}
 use Rattle.method_frames.specs.NumberedFrames.{NumberedFrames, frame_by, declared_frame}
 use Rattle.method_frames.specs.MapFrames.{frames_by}
-use Rattle.numbered_rules.specs.Held.{held}
+use Rattle.numbered_rules.specs.RunningFrame.{held}
 use Rattle.verify.specs.Verdict.{declared_at, answer_conditions, one_target}
 use Rattle.verify.specs.private.InTurn.{IsLack, AreLacks}
 use Rattle.verify.specs.private.Targets.{AreFound, all_targets, any_refuses, refuses, target_at}

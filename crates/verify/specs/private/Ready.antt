@@ -1,7 +1,7 @@
 -- An instruction can be run: the constants, the running frame and the numbers are those of its method.
 use Rattle.std.specs.Prelude.{◌≡◌, length}
 use Rattle.method_frames.specs.NumberedFrames.{NumberedFrames}
-use Rattle.numbered_rules.specs.Running.{AreRuleNumbers}
+use Rattle.numbered_rules.specs.RuleNumbers.{AreRuleNumbers}
 use Rattle.numbered_rules.specs.declared.body.Body.{Body}
 use Rattle.rules.specs.Bodies.{method_view}
 use Rattle.rules.specs.Guards.{Surroundings}

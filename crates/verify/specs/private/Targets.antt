@@ -6,7 +6,7 @@ use Rattle.frames.specs.Conditions.{Conditions, is_no, least, reason}
 use Rattle.frames.specs.FrameAssignable.{frame_answer}
 use Rattle.method_frames.specs.NumberedFrames.{NumberedFrames, frame_by, declared_frame}
 use Rattle.method_frames.specs.MapFrames.{frames_by}
-use Rattle.numbered_rules.specs.Held.{held}
+use Rattle.numbered_rules.specs.RunningFrame.{held}
 use Rattle.rules.specs.declared.reason.Reason.{Reason as RuleReason}
 use Rattle.rules.specs.ReasonNumbers.{no_frame_at_target}
 use Rattle.verify.specs.Verdict.{declared_at, one_target, target_conditions}

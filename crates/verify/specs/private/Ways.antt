@@ -6,7 +6,7 @@ use Rattle.frames.specs.declared.difference.Sought.{Sought}
 use Rattle.type_numbers.specs.Decoding.{type_by}
 use Rattle.type_numbers.specs.Numbers.{IsGiven}
 use Rattle.method_frames.specs.NumberedFrames.{NumberedFrames, frame_by, declared_frame}
-use Rattle.numbered_rules.specs.Held.{held}
+use Rattle.numbered_rules.specs.RunningFrame.{held}
 use Rattle.rules.specs.After.{with_stack}
 use Rattle.verify.specs.DifferencesAt.{DifferenceAtFact, from_declared}
 use Rattle.verify.specs.declared.difference_at.Way.{Way}

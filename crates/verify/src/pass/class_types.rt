@@ -9,7 +9,7 @@ ghost use Rattle.rules.specs.Bodies.{method_view};
 ghost use Rattle.type_numbers.specs.Constants.{IsTable, arguments_of, descriptors_of};
 ghost use Rattle.type_numbers.specs.Numbers.{Numbering, Extends, IsNumberOf};
 ghost use Rattle.type_numbers.specs.MethodNumbers.{AreDescriptors, AreNumbers};
-ghost use Rattle.numbered_rules.specs.Running.{AreRuleNumbers};
+ghost use Rattle.numbered_rules.specs.RuleNumbers.{AreRuleNumbers};
 ghost use Rattle.verify.specs.InitialFrames.{initial_types};
 ghost use Rattle.verify.specs.private.pass.ClassTypes.{AreClassTypes, AreMethodTypes, receiver_type};
 

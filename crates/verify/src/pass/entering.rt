@@ -3,7 +3,7 @@ ghost use Rattle.std.specs.Prelude.{◌≡◌, ◌<◌, true, length, Some, None
 ghost use Rattle.insn.specs.Offsets.{at_offset};
 ghost use Rattle.method_frames.specs.MapFrames.{frames_by};
 ghost use Rattle.method_frames.specs.NumberedFrames.{frame_by, declared_frame};
-ghost use Rattle.numbered_rules.specs.Held.{held, IsRunning};
+ghost use Rattle.numbered_rules.specs.RunningFrame.{held, IsRunning};
 ghost use Rattle.verify.specs.private.JudgingSteps.{Enters};
 
 use crate::flow::check_answer;

@@ -9,7 +9,7 @@ ghost use Rattle.frames.specs.Assignable.{type_answer};
 ghost use Rattle.frames.specs.Slots.{to_reference};
 ghost use Rattle.frames.specs.VerificationType.{class};
 ghost use Rattle.method_frames.specs.MapFrames.{frames_by};
-ghost use Rattle.numbered_rules.specs.Running.{AreRuleNumbers};
+ghost use Rattle.numbered_rules.specs.RuleNumbers.{AreRuleNumbers};
 ghost use Rattle.rules.specs.Bodies.{method_view};
 ghost use Rattle.type_numbers.specs.Numbers.{Numbering, IsNumberOf};
 ghost use Rattle.verify.specs.Verdict.{is_end};

@@ -5,7 +5,7 @@ ghost use Rattle.classfile.specs.Methods.{ExceptionEntry};
 ghost use Rattle.frames.specs.Conditions.{least};
 ghost use Rattle.method_frames.specs.NumberedFrames.{NumberedFrames};
 ghost use Rattle.method_frames.specs.MapFrames.{frames_by};
-ghost use Rattle.numbered_rules.specs.Held.{held};
+ghost use Rattle.numbered_rules.specs.RunningFrame.{held};
 ghost use Rattle.rules.specs.Outcomes.{Judges};
 ghost use Rattle.verify.specs.Verdict.{handler_conditions, is_covered};
 ghost use Rattle.verify.specs.private.InTurn.{IsJudgedInTurn};

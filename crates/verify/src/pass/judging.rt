@@ -2,7 +2,7 @@
 ghost use Rattle.std.specs.Prelude.{◌≡◌, ◌&&◌, ℕ, [], Option, is_none, length, IsTrue, OnOk};
 ghost use Rattle.insn.specs.Views.{act_view};
 ghost use Rattle.method_frames.specs.MapFrames.{frames_by};
-ghost use Rattle.numbered_rules.specs.Held.{held, IsRunning};
+ghost use Rattle.numbered_rules.specs.RunningFrame.{held, IsRunning};
 ghost use Rattle.rules.specs.After.{after};
 ghost use Rattle.rules.specs.Bodies.{method_view};
 ghost use Rattle.rules.specs.Naming.{names_bootstrapped, sets_own};
@@ -11,7 +11,7 @@ ghost use Rattle.rules.specs.Table.{typing_rule};
 ghost use Rattle.rules.specs.Ways.{branch_offsets, goes_on};
 ghost use Rattle.verify.specs.Verdict.{at_conditions};
 ghost use Rattle.verify.specs.private.JudgingSteps.{run_conditions};
-ghost use Rattle.numbered_rules.specs.Running.{AreRuleNumbers};
+ghost use Rattle.numbered_rules.specs.RuleNumbers.{AreRuleNumbers};
 ghost use Rattle.verify.specs.private.pass.Following.{Follows, AreAhead, IsOnward};
 ghost use Rattle.verify.specs.private.pass.Alone.{asks_no_more, IsScope};
 

@@ -10,7 +10,7 @@ use Rattle.rules.specs.Table.{object_array}
 use Rattle.rules.specs.TypingRules.{number}
 use Rattle.numbered_rules.specs.declared.expected.Expected.TheVariants.{ObjectArray}
 use Rattle.numbered_rules.specs.Expected.{IsExpected}
-use Rattle.numbered_rules.specs.Held.{held}
+use Rattle.numbered_rules.specs.RunningFrame.{held}
 use Rattle.numbered_rules.proofs.Elements.{element_loaded}
 use Rattle.numbered_rules.proofs.Standing.{type_stands}
 use Rattle.numbered_rules.proofs.arrays.load_reference_element.Goals as goal

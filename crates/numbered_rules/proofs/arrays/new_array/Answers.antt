@@ -8,7 +8,7 @@ use Rattle.rules.specs.Bodies.{method_view}
 use Rattle.rules.specs.Constants.{new_array}
 use Rattle.rules.specs.TypingRules.{numbers, pops}
 use Rattle.rules.proofs.Settling.{by_typing_rule}
-use Rattle.numbered_rules.specs.Held.{held}
+use Rattle.numbered_rules.specs.RunningFrame.{held}
 use Rattle.numbered_rules.proofs.Standing.{kinds_stand, kinds_expected}
 use Rattle.numbered_rules.proofs.arrays.new_array.Goals as goal
 

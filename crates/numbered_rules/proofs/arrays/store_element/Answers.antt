@@ -9,7 +9,7 @@ use Rattle.rules.specs.TypingRules.{ExpectedType, any_array_for, number, takes}
 use Rattle.rules.proofs.Settling.{by_typing_rule}
 use Rattle.numbered_rules.specs.declared.expected.Expected.TheVariants.{ArrayFor}
 use Rattle.numbered_rules.specs.Expected.{IsExpected}
-use Rattle.numbered_rules.specs.Held.{held}
+use Rattle.numbered_rules.specs.RunningFrame.{held}
 use Rattle.numbered_rules.proofs.Standing.{array_for_stands}
 use Rattle.numbered_rules.proofs.arrays.store_element.Goals as goal
 

@@ -9,7 +9,7 @@ use Rattle.rules.specs.Outcomes.{Done, pushed, settled}
 use Rattle.rules.specs.TypingRules.{arguments_on, result_types}
 use Rattle.rules.proofs.Settling.{off_done, not_no}
 use Rattle.numbered_rules.specs.Expected.{types_given}
-use Rattle.numbered_rules.specs.Held.{held}
+use Rattle.numbered_rules.specs.RunningFrame.{held}
 use Rattle.numbered_rules.specs.private.Calls.{receivers}
 use Rattle.numbered_rules.proofs.Calling.{numbers_given}
 use Rattle.numbered_rules.proofs.Naming.{result_given, if_number_given}

@@ -8,7 +8,7 @@ use Rattle.rules.specs.Constants.{dynamic_call, is_special_name}
 use Rattle.rules.specs.TypingRules.{call_of, where_bootstrapped, refuses}
 use Rattle.rules.specs.declared.reason.Reason.TheVariants.{WrongConstant, BadBootstrap}
 use Rattle.rules.proofs.Settling.{by_allowed, by_bootstrapped}
-use Rattle.numbered_rules.specs.Held.{held}
+use Rattle.numbered_rules.specs.RunningFrame.{held}
 use Rattle.numbered_rules.specs.private.Named.{IsSiteOf}
 use Rattle.numbered_rules.proofs.Judging.{refused, not_allowed}
 use Rattle.numbered_rules.proofs.Naming.{names_site, names_no_site}

@@ -3,7 +3,7 @@ use Rattle.pool.specs.ConstantMeanings.{call_site_at}
 use Rattle.rules.specs.Bodies.{method_view}
 use Rattle.rules.specs.Constants.{invoke_dynamic, dynamic_call}
 use Rattle.rules.proofs.Settling.{by_judged}
-use Rattle.numbered_rules.specs.Held.{held}
+use Rattle.numbered_rules.specs.RunningFrame.{held}
 use Rattle.numbered_rules.proofs.calls.invoke_dynamic.Goals as goal
 
 pub returns-then-method-clause-done : goal.returns-then-method-clause-done

@@ -7,7 +7,7 @@ use Rattle.rules.specs.Bodies.{method_view}
 use Rattle.rules.specs.Constants.{invoke_static, is_init_name, may_name, static_call}
 use Rattle.rules.specs.declared.reason.Reason.TheVariants.{WrongConstant}
 use Rattle.rules.proofs.Settling.{by_allowed}
-use Rattle.numbered_rules.specs.Held.{held}
+use Rattle.numbered_rules.specs.RunningFrame.{held}
 use Rattle.numbered_rules.specs.private.Named.{IsMethodOf}
 use Rattle.numbered_rules.proofs.Judging.{refused, not_allowed}
 use Rattle.numbered_rules.proofs.Naming.{names_method, names_no_method}

@@ -10,7 +10,7 @@ use Rattle.rules.specs.Constants.{load_dynamic}
 use Rattle.rules.specs.TypingRules.{gives, where_bootstrapped, refuses}
 use Rattle.rules.specs.declared.reason.Reason.TheVariants.{BadBootstrap}
 use Rattle.rules.proofs.Settling.{by_typing_rule, by_allowed, by_bootstrapped}
-use Rattle.numbered_rules.specs.Held.{held}
+use Rattle.numbered_rules.specs.RunningFrame.{held}
 use Rattle.numbered_rules.specs.private.Loading.{units_by}
 use Rattle.numbered_rules.proofs.Judging.{refused, not_allowed}
 use Rattle.numbered_rules.proofs.Loading.{width_by, units_differ, units_same}

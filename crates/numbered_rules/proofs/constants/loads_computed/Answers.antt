@@ -7,7 +7,7 @@ use Rattle.rules.specs.Bodies.{method_view}
 use Rattle.rules.specs.Constants.{load_dynamic, is_bootstrapped}
 use Rattle.rules.specs.TypingRules.{where_judged}
 use Rattle.rules.proofs.Settling.{by_judged}
-use Rattle.numbered_rules.specs.Held.{held}
+use Rattle.numbered_rules.specs.RunningFrame.{held}
 use Rattle.numbered_rules.specs.private.Loading.{units_by, load_computed}
 use Rattle.numbered_rules.proofs.constants.loads_computed.Goals as goal
 

@@ -11,7 +11,7 @@ use Rattle.rules.specs.Bodies.{method_view}
 use Rattle.rules.specs.TypingRules.{gives}
 use Rattle.rules.specs.declared.reason.Reason.TheVariants.{WrongConstant}
 use Rattle.rules.proofs.Settling.{by_typing_rule}
-use Rattle.numbered_rules.specs.Held.{held}
+use Rattle.numbered_rules.specs.RunningFrame.{held}
 use Rattle.numbered_rules.specs.private.Loading.{units_by, load_by, load_computed}
 use Rattle.numbered_rules.proofs.Judging.{refused}
 use Rattle.numbered_rules.proofs.Loading.{loads_alike, loads_unlike, loads_other}

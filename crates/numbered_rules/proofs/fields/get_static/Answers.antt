@@ -8,7 +8,7 @@ use Rattle.rules.specs.Constants.{get_static}
 use Rattle.rules.specs.TypingRules.{gives}
 use Rattle.rules.specs.declared.reason.Reason.TheVariants.{WrongConstant}
 use Rattle.rules.proofs.Settling.{by_typing_rule}
-use Rattle.numbered_rules.specs.Held.{held}
+use Rattle.numbered_rules.specs.RunningFrame.{held}
 use Rattle.numbered_rules.proofs.Judging.{refused}
 use Rattle.numbered_rules.proofs.Naming.{names_field, names_no_field}
 use Rattle.numbered_rules.proofs.fields.get_static.Goals as goal

@@ -12,7 +12,7 @@ use Rattle.rules.specs.TypingRules.{takes, expected_class, expected_of, own_or_a
 use Rattle.rules.specs.declared.reason.Reason.TheVariants.{WrongConstant}
 use Rattle.rules.proofs.Settling.{by_typing_rule}
 use Rattle.numbered_rules.specs.Expected.{IsExpected, StandsFor}
-use Rattle.numbered_rules.specs.Held.{held}
+use Rattle.numbered_rules.specs.RunningFrame.{held}
 use Rattle.numbered_rules.specs.declared.expected.Expected.TheVariants.{Assignable, OwnOr}
 use Rattle.numbered_rules.specs.private.Named.{IsFieldOf}
 use Rattle.numbered_rules.proofs.Judging.{refused}

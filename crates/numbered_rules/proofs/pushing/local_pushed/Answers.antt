@@ -5,7 +5,7 @@ use Rattle.type_numbers.specs.Decoding.{type_by}
 use Rattle.rules.specs.Bodies.{method_view}
 use Rattle.rules.specs.Rules.{is_outside}
 use Rattle.rules.proofs.Settling.{load_done, not_less}
-use Rattle.numbered_rules.specs.Held.{held}
+use Rattle.numbered_rules.specs.RunningFrame.{held}
 use Rattle.numbered_rules.proofs.Reading.{local_typed}
 use Rattle.numbered_rules.proofs.pushing.local_pushed.Goals as goal
 

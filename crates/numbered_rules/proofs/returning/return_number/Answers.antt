@@ -5,7 +5,7 @@ use Rattle.rules.specs.Outcomes.{result_kind}
 use Rattle.rules.specs.Table.{return_number, leaves_with}
 use Rattle.rules.specs.TypingRules.{number}
 use Rattle.rules.proofs.Settling.{by_typing_rule}
-use Rattle.numbered_rules.specs.Held.{held}
+use Rattle.numbered_rules.specs.RunningFrame.{held}
 use Rattle.numbered_rules.proofs.Results.{kind_returned}
 use Rattle.numbered_rules.proofs.Standing.{kinds_stand, kinds_expected}
 use Rattle.numbered_rules.proofs.returning.return_number.Goals as goal

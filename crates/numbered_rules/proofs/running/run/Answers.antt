@@ -6,7 +6,7 @@ use Rattle.rules.specs.Constants.{invoke_dynamic, is_bootstrapped}
 use Rattle.rules.specs.Naming.{names_bootstrapped}
 use Rattle.rules.specs.Table.{typing_rule}
 use Rattle.rules.proofs.Settling.{by_typing_rule, by_act}
-use Rattle.numbered_rules.specs.Held.{held}
+use Rattle.numbered_rules.specs.RunningFrame.{held}
 use Rattle.numbered_rules.proofs.running.run.Goals as goal
 
 pub returns-in-Return-clause-done : goal.returns-in-Return-clause-done

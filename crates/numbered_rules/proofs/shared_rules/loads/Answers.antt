@@ -5,7 +5,7 @@ use Rattle.rules.specs.Bodies.{method_view}
 use Rattle.rules.specs.Rules.{is_outside}
 use Rattle.rules.proofs.Settling.{load_no, load_done, not_less, not_no}
 use Rattle.numbered_rules.specs.Expected.{accepts_by}
-use Rattle.numbered_rules.specs.Held.{held}
+use Rattle.numbered_rules.specs.RunningFrame.{held}
 use Rattle.numbered_rules.proofs.Reading.{local_typed}
 use Rattle.numbered_rules.proofs.shared_rules.loads.Goals as goal
 

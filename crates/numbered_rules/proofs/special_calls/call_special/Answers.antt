@@ -5,7 +5,7 @@ use Rattle.rules.specs.Bodies.{method_view}
 use Rattle.rules.specs.Constants.{may_name, has_room_for_receiver, special_call}
 use Rattle.rules.specs.TypingRules.{expected_class, arguments_on, result_types, calls_special}
 use Rattle.rules.proofs.Settling.{by_allowed}
-use Rattle.numbered_rules.specs.Held.{held}
+use Rattle.numbered_rules.specs.RunningFrame.{held}
 use Rattle.numbered_rules.proofs.Judging.{not_allowed}
 use Rattle.numbered_rules.proofs.special_calls.call_special.Goals as goal
 

@@ -14,7 +14,7 @@ use Rattle.rules.specs.TypingRules.{expected_class, arguments_on, result_types}
 use Rattle.rules.proofs.Settling.{not_no}
 use Rattle.rules.proofs.SpecialCalls.{special_short, special_no, special_done}
 use Rattle.numbered_rules.specs.Expected.{types_given}
-use Rattle.numbered_rules.specs.Held.{held}
+use Rattle.numbered_rules.specs.RunningFrame.{held}
 use Rattle.numbered_rules.proofs.Calling.{numbers_given}
 use Rattle.numbered_rules.proofs.Naming.{result_given, if_number_given}
 use Rattle.numbered_rules.proofs.Taking.{running_then, types_stay}

@@ -6,7 +6,7 @@ use Rattle.rules.specs.Bodies.{method_view}
 use Rattle.rules.specs.Constants.{is_init_name, special_call, invoke_special, constructor_call}
 use Rattle.rules.specs.declared.reason.Reason.TheVariants.{WrongConstant}
 use Rattle.rules.proofs.Settling.{by_typing_rule}
-use Rattle.numbered_rules.specs.Held.{held}
+use Rattle.numbered_rules.specs.RunningFrame.{held}
 use Rattle.numbered_rules.specs.private.Named.{IsMethodOf}
 use Rattle.numbered_rules.proofs.Judging.{refused}
 use Rattle.numbered_rules.proofs.Naming.{names_method, names_no_method}

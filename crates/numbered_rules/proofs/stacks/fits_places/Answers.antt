@@ -1,6 +1,6 @@
 use Rattle.std.proofs.Common.{◌∙◌, ◌&&◌, ◌+◌, None, drop, sym, ap}
 use Rattle.rules.specs.After.{fits_places}
-use Rattle.numbered_rules.specs.Held.{held}
+use Rattle.numbered_rules.specs.RunningFrame.{held}
 use Rattle.numbered_rules.proofs.Moving.{place_none, place_item, typed_item}
 use Rattle.numbered_rules.proofs.stacks.fits_places.Goals as goal
 

@@ -1,6 +1,6 @@
 use Rattle.std.proofs.Common.{◌≡◌, drop}
 use Rattle.rules.specs.After.{fits_places}
-use Rattle.numbered_rules.specs.Held.{held}
+use Rattle.numbered_rules.specs.RunningFrame.{held}
 use Rattle.numbered_rules.proofs.stacks.fits_places.Given as goal
 
 abbrev pub invariant-loop-above : goal.invariant-loop-above

@@ -1,6 +1,6 @@
 use Rattle.std.proofs.Common.{sym, ◌∙◌}
 use Rattle.rules.proofs.Moving.{form_next, form_here, form_end}
-use Rattle.numbered_rules.specs.Held.{held}
+use Rattle.numbered_rules.specs.RunningFrame.{held}
 use Rattle.numbered_rules.proofs.stacks.form_for.Goals as goal
 
 pub loop-form-preserved : goal.loop-form-preserved

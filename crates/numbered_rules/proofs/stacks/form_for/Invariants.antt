@@ -1,7 +1,7 @@
 use Rattle.std.proofs.Common.{◌≡◌, drop, map}
 use Rattle.insn.specs.Views.{stack_form_view}
 use Rattle.rules.specs.After.{form_for}
-use Rattle.numbered_rules.specs.Held.{held}
+use Rattle.numbered_rules.specs.RunningFrame.{held}
 use Rattle.numbered_rules.proofs.stacks.form_for.Given as goal
 
 abbrev pub invariant-loop-form : goal.invariant-loop-form

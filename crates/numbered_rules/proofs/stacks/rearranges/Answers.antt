@@ -12,7 +12,7 @@ use Rattle.rules.specs.Outcomes.{Done, settled}
 use Rattle.rules.proofs.Moving.{fits_length, form_takes}
 use Rattle.rules.proofs.Taking.{has_fewer}
 use Rattle.rules.proofs.Settling.{moves_few, moves_done}
-use Rattle.numbered_rules.specs.Held.{held}
+use Rattle.numbered_rules.specs.RunningFrame.{held}
 use Rattle.numbered_rules.proofs.Moving.{map_rearranged}
 use Rattle.numbered_rules.proofs.stacks.rearranges.Goals as goal
 
@@ -42,5 +42,5 @@ returns-in_ok-rearrange-in-Some-clause-done g c =
     let enough = c.has_units.ensures.0 c.if-not-has_units.false in
     let found : form_for forms f.stack ≡ Some form = ap (λ fs. form_for fs f.stack) (sym c.forms-forms.ensures) ∙ sym c.form_for.ensures ∙ ap (option_map stack_form_view) c.in-Some.is in
     let moved : held c.rearrange.new.self ≡ with_stack f (rearranged form f.stack) = ap held c.in_ok-rearrange-in-Some.ensures.ok ∙ ap (with_stack f) (map_rearranged (type_by x.types) form x.running.stack) in
-    moves_done x.types.classes m forms f form (rearranged form f.stack) (held c.rearrange.new.self) c.judge_left.result (omega (arith, taken, enough)) found refl
-    (subst (λ z. Done (settled m yes z) z (held c.rearrange.new.self) c.judge_left.result) moved c.judge_left.ensures)
+    moves_done x.types.classes m forms f form (rearranged form f.stack) (held c.rearrange.new.self) c.judge_frame_after.result (omega (arith, taken, enough)) found refl
+    (subst (λ z. Done (settled m yes z) z (held c.rearrange.new.self) c.judge_frame_after.result) moved c.judge_frame_after.ensures)

@@ -8,7 +8,7 @@ use Rattle.rules.specs.Rules.{is_outside}
 use Rattle.rules.specs.After.{with_locals}
 use Rattle.rules.proofs.Settling.{store_off_out, store_off_done, is_less, not_less, not_no}
 use Rattle.numbered_rules.specs.Expected.{accepts_by}
-use Rattle.numbered_rules.specs.Held.{held}
+use Rattle.numbered_rules.specs.RunningFrame.{held}
 use Rattle.numbered_rules.proofs.Taking.{under_held, under_running, running_then}
 use Rattle.numbered_rules.proofs.storing.stores.Goals as goal
 
@@ -40,6 +40,6 @@ returns-in_ok-store-in_default-answer g c = record {
       let kept = ap (λ (f : NumberedFrames). f.types) (sym c.in-Some.ensures.taken) in
       let stored = c.in_ok-store-in_default-answer.ensures.ok ∙ (λ i. with_locals (held y) (stored_type (type_by (kept i) n) (c.from-place.ensures i) (held y).locals)) in
       store_off_done x.types.classes (method_view c.args.method.now) w c.args.local c.args.width (held x) (held y) (type_by x.types n) (under_held x y n c.in-Some.ensures.taken)
-      (outcome_of c.meets-answer.result) (held c.store.new.frames) (held c.store.new.frames) c.judge_left.result told (not_no c.meets-answer.result c.in_default-answer.not-No) inside stored c.judge_left.ensures;
+      (outcome_of c.meets-answer.result) (held c.store.new.frames) (held c.store.new.frames) c.judge_frame_after.result told (not_no c.meets-answer.result c.in_default-answer.not-No) inside stored c.judge_frame_after.ensures;
   rest = running_then c.args.frames.now c.pop.new.self c.store.new.frames (under_running c.args.frames.now c.pop.new.self c.in-Some.number c.in-Some.ensures.taken) c.in_ok-store-in_default-answer.ensures.rest;
 }

@@ -7,8 +7,8 @@ use Rattle.hierarchy.specs.Class.{ClassFact}
 use Rattle.insn.specs.Meanings.{Act, act}
 use Rattle.insn.specs.Views.{act_view, view}
 use Rattle.frames.specs.FrameFact.{FrameFact, frame_of}
-use Rattle.numbered_rules.specs.Held.{held}
-use Rattle.numbered_rules.specs.Running.{AreRuleNumbers}
+use Rattle.numbered_rules.specs.RunningFrame.{held}
+use Rattle.numbered_rules.specs.RuleNumbers.{AreRuleNumbers}
 use Rattle.rules.specs.Bodies.{method_view}
 use Rattle.rules.specs.declared.reason.Reason.TheVariants.{OutOfMemory}
 use Rattle.rules.specs.Table.{typing_rule}

@@ -2,7 +2,7 @@ use Rattle.std.proofs.Common.{◌≡◌, ◌∙◌, ◌++◌, length, map, rever
 use Rattle.std.proofs.lemmas.List.{length-map, length-replicate}
 use Rattle.frames.specs.VerificationType.{type_of}
 use Rattle.method_frames.specs.NumberedFrames.{NumberedFrames}
-use Rattle.numbered_rules.specs.Held.{held}
+use Rattle.numbered_rules.specs.RunningFrame.{held}
 use Rattle.type_numbers.specs.MethodNumbers.{AreNumbers}
 use Rattle.type_numbers.proofs.MethodReadings.{numbers_length}
 use Rattle.verify.proofs.Applied.{frame_read}

@@ -1,5 +1,5 @@
 use Rattle.insn.specs.Views.{act_view}
-use Rattle.numbered_rules.specs.Held.{held}
+use Rattle.numbered_rules.specs.RunningFrame.{held}
 use Rattle.rules.specs.After.{after}
 use Rattle.rules.specs.Bodies.{method_view}
 use Rattle.rules.specs.Rules.{conditions}

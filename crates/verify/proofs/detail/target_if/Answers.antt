@@ -4,7 +4,7 @@ use Rattle.insn.specs.Views.{act_view}
 use Rattle.frames.specs.Conditions.{least}
 use Rattle.method_frames.specs.NumberedFrames.{NumberedFrames}
 use Rattle.method_frames.specs.MapFrames.{frames_by}
-use Rattle.numbered_rules.specs.Held.{held}
+use Rattle.numbered_rules.specs.RunningFrame.{held}
 use Rattle.rules.specs.After.{after}
 use Rattle.rules.specs.Bodies.{method_view}
 use Rattle.rules.specs.Rules.{conditions}

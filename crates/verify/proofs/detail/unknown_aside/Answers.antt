@@ -2,7 +2,7 @@ use Rattle.std.proofs.Common.{◌≡◌, Option, option_map, sym, ◌∙◌, sub
 use Rattle.std.specs.Prelude.{IfOk}
 use Rattle.insn.specs.Views.{act_view}
 use Rattle.method_frames.specs.MapFrames.{frames_by}
-use Rattle.numbered_rules.specs.Held.{held}
+use Rattle.numbered_rules.specs.RunningFrame.{held}
 use Rattle.rules.specs.Bodies.{method_view}
 use Rattle.rules.specs.Table.{typing_rule}
 use Rattle.verify.specs.Details.{DetailFact, detail_of}

@@ -1,7 +1,7 @@
 use Rattle.std.proofs.Common.{◌∙◌, [], ap, sym}
 use Rattle.std.proofs.lemmas.List.{append-nil}
 use Rattle.method_frames.specs.MapFrames.{frames_by}
-use Rattle.numbered_rules.specs.Held.{held}
+use Rattle.numbered_rules.specs.RunningFrame.{held}
 use Rattle.verify.specs.DifferencesAt.{at_targets}
 use Rattle.verify.proofs.Ways.{alone, alone_is}
 use Rattle.verify.proofs.difference_at.target_ways.Goals as goal

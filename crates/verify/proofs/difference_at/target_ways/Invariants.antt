@@ -3,7 +3,7 @@ use Rattle.std.specs.Prelude.{All}
 use Rattle.insn.specs.Branching.{targets_of}
 use Rattle.frames.specs.declared.difference.Sought.{Sought}
 use Rattle.method_frames.specs.MapFrames.{frames_by}
-use Rattle.numbered_rules.specs.Held.{held}
+use Rattle.numbered_rules.specs.RunningFrame.{held}
 use Rattle.verify.specs.DifferencesAt.{at_targets}
 use Rattle.verify.specs.declared.difference_at.Way.{Way}
 use Rattle.verify.specs.private.Ways.{IsWayIf}

@@ -1,6 +1,6 @@
 use Rattle.std.proofs.Common.{subst}
 use Rattle.insn.specs.Views.{act_view}
-use Rattle.numbered_rules.specs.Held.{held}
+use Rattle.numbered_rules.specs.RunningFrame.{held}
 use Rattle.rules.specs.After.{after}
 use Rattle.rules.specs.Bodies.{method_view}
 use Rattle.rules.specs.Outcomes.{Done}

@@ -4,7 +4,7 @@ use Rattle.insn.specs.Offsets.{at_offset}
 use Rattle.insn.specs.Views.{act_view}
 use Rattle.frames.specs.FrameFact.{frame_of}
 use Rattle.method_frames.specs.MapFrames.{frames_by}
-use Rattle.numbered_rules.specs.Held.{held}
+use Rattle.numbered_rules.specs.RunningFrame.{held}
 use Rattle.numbered_rules.proofs.Taking.{running_then}
 use Rattle.rules.specs.Bodies.{method_view}
 use Rattle.rules.specs.Reasons.{reason_number}

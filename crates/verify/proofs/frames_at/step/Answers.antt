@@ -1,7 +1,7 @@
 use Rattle.insn.specs.Offsets.{at_offset}
 use Rattle.insn.specs.Views.{act_view}
 use Rattle.method_frames.specs.MapFrames.{frames_by}
-use Rattle.numbered_rules.specs.Held.{held}
+use Rattle.numbered_rules.specs.RunningFrame.{held}
 use Rattle.rules.specs.Bodies.{method_view}
 use Rattle.rules.specs.Table.{typing_rule}
 use Rattle.verify.specs.Coming.{before, frame_if}

@@ -12,7 +12,7 @@ use Rattle.insn.proofs.CodeResults.{result_at, whole_reading, only_result, has_i
 use Rattle.frames.specs.FrameFact.{FrameFact}
 use Rattle.method_frames.specs.NumberedFrames.{NumberedFrames}
 use Rattle.method_frames.specs.MapFrames.{frames_by}
-use Rattle.numbered_rules.specs.Held.{held, IsRunning}
+use Rattle.numbered_rules.specs.RunningFrame.{held, IsRunning}
 use Rattle.numbered_rules.proofs.Taking.{running_same, running_then}
 use Rattle.rules.specs.Bodies.{method_view}
 use Rattle.rules.specs.Reasons.{reason_number}

@@ -1,6 +1,6 @@
 use Rattle.std.proofs.Common.{◌≡◌, Some, length}
 use Rattle.method_frames.specs.MapFrames.{frames_by}
-use Rattle.numbered_rules.specs.Held.{held, IsRunning}
+use Rattle.numbered_rules.specs.RunningFrame.{held, IsRunning}
 use Rattle.rules.specs.Reasons.{reason_number}
 use Rattle.rules.specs.Table.{typing_rule}
 use Rattle.rules.specs.Bodies.{method_view}

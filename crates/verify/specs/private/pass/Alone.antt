@@ -5,7 +5,7 @@ use Rattle.insn.specs.Meanings.{Act}
 use Rattle.frames.specs.Conditions.{least}
 use Rattle.method_frames.specs.NumberedFrames.{NumberedFrames}
 use Rattle.method_frames.specs.MapFrames.{frames_by}
-use Rattle.numbered_rules.specs.Held.{held}
+use Rattle.numbered_rules.specs.RunningFrame.{held}
 use Rattle.rules.specs.Naming.{loaded_index, names_bootstrapped, site_index, sets_own}
 use Rattle.rules.specs.Ways.{is_plain}
 use Rattle.verify.specs.declared.pass.judging.Scope.{Scope}

@@ -13,7 +13,7 @@ use Rattle.type_numbers.specs.Numbers.{IsGiven}
 use Rattle.type_numbers.specs.Decoding.{types_by}
 use Rattle.method_frames.specs.NumberedFrames.{NumberedFrames}
 use Rattle.method_frames.specs.MapFrames.{frames_by}
-use Rattle.numbered_rules.specs.Held.{held}
+use Rattle.numbered_rules.specs.RunningFrame.{held}
 use Rattle.verify.specs.InitialFrames.{initial_types, initial_frame}
 use Rattle.verify.specs.Details.{DetailFact, refused_detail, faulty_detail, map_detail_of}
 use Rattle.verify.specs.Verdict.{MapRefusal, unreadable, undeclared, frames_of}

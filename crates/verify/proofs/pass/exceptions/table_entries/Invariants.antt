@@ -1,7 +1,7 @@
 use Rattle.classfile.specs.Methods.{Method}
 use Rattle.insn.specs.Meanings.{Act}
 use Rattle.type_numbers.specs.Numbers.{Numbering}
-use Rattle.numbered_rules.specs.Running.{AreRuleNumbers}
+use Rattle.numbered_rules.specs.RuleNumbers.{AreRuleNumbers}
 use Rattle.verify.proofs.numbered.TableEntries.{Made}
 use Rattle.verify.proofs.pass.exceptions.table_entries.Given as goal
 

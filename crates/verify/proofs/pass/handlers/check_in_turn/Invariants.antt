@@ -1,7 +1,7 @@
 use Rattle.std.proofs.Common.{◌≡◌, List, Result, drop}
 use Rattle.classfile.specs.Methods.{ExceptionEntry}
 use Rattle.method_frames.specs.MapFrames.{frames_by}
-use Rattle.numbered_rules.specs.Held.{held}
+use Rattle.numbered_rules.specs.RunningFrame.{held}
 use Rattle.rules.specs.declared.reason.Reason.{Reason}
 use Rattle.verify.specs.Verdict.{handler_conditions}
 use Rattle.verify.specs.private.InTurn.{IsJudgedInTurn}

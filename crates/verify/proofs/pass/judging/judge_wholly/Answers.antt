@@ -8,7 +8,7 @@ use Rattle.method_frames.specs.MapFrames.{frames_by}
 use Rattle.frames.specs.FrameFact.{FrameFact}
 use Rattle.rules.specs.After.{after}
 use Rattle.rules.specs.Bodies.{method_view}
-use Rattle.numbered_rules.specs.Held.{held}
+use Rattle.numbered_rules.specs.RunningFrame.{held}
 use Rattle.rules.specs.Outcomes.{Done, Judges}
 use Rattle.rules.specs.Protected.{member_conditions}
 use Rattle.rules.specs.ReasonNumbers.{falls_off, constructor_covered}

@@ -1,7 +1,7 @@
 use Rattle.std.proofs.Common.{◌∙◌, false, sym, ap}
 use Rattle.insn.specs.Views.{act_view}
 use Rattle.method_frames.specs.MapFrames.{frames_by}
-use Rattle.numbered_rules.specs.Held.{held}
+use Rattle.numbered_rules.specs.RunningFrame.{held}
 use Rattle.rules.specs.Bodies.{method_view}
 use Rattle.rules.specs.Guards.{Surroundings}
 use Rattle.verify.specs.Verdict.{is_covered}

@@ -10,7 +10,7 @@ use Rattle.rules.specs.After.{top_of}
 use Rattle.rules.specs.Bodies.{method_view}
 use Rattle.rules.specs.Guards.{Surroundings}
 use Rattle.rules.specs.Outcomes.{Judges}
-use Rattle.numbered_rules.specs.Held.{held}
+use Rattle.numbered_rules.specs.RunningFrame.{held}
 use Rattle.rules.specs.Protected.{object_answer}
 use Rattle.rules.proofs.Made.{beneath_drops}
 use Rattle.rules.proofs.Using.{judged}

@@ -1,7 +1,7 @@
 use Rattle.std.proofs.Common.{◌∙◌, sym, ap}
 use Rattle.insn.specs.Views.{act_view}
 use Rattle.rules.specs.Bodies.{method_view}
-use Rattle.numbered_rules.specs.Held.{held}
+use Rattle.numbered_rules.specs.RunningFrame.{held}
 use Rattle.rules.proofs.Made.{own_of_index, own_by_index}
 use Rattle.verify.proofs.pass.members.constructs_own.Goals as goal
 

@@ -3,7 +3,7 @@ use Rattle.insn.specs.Views.{act_view}
 use Rattle.rules.specs.Bodies.{method_view}
 use Rattle.rules.specs.Rules.{constructs_own}
 use Rattle.rules.specs.Table.{typing_rule}
-use Rattle.numbered_rules.specs.Held.{held}
+use Rattle.numbered_rules.specs.RunningFrame.{held}
 use Rattle.verify.specs.Verdict.{is_covered}
 use Rattle.verify.proofs.numbered.Running.{if_ok}
 use Rattle.verify.proofs.pass.members.covers_constructor.Goals as goal

@@ -9,7 +9,7 @@ use Rattle.insn.specs.OperandStacks.{beneath}
 use Rattle.rules.specs.After.{top_of}
 use Rattle.rules.specs.TypingRules.{arguments_on}
 use Rattle.rules.proofs.Made.{beneath_arguments}
-use Rattle.numbered_rules.specs.Held.{held}
+use Rattle.numbered_rules.specs.RunningFrame.{held}
 use Rattle.verify.proofs.numbered.Objects.{read_as}
 use Rattle.verify.proofs.pass.members.is_on_own.Goals as goal
 

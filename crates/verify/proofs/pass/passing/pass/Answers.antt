@@ -10,7 +10,7 @@ use Rattle.insn.specs.Views.{act_located, act_view}
 use Rattle.insn.proofs.CodeResults.{result_at, whole_reading, only_result, has_instruction}
 use Rattle.method_frames.specs.MapFrames.{frames_by}
 use Rattle.method_frames.specs.NumberedFrames.{NumberedFrames}
-use Rattle.numbered_rules.specs.Held.{held, IsRunning}
+use Rattle.numbered_rules.specs.RunningFrame.{held, IsRunning}
 use Rattle.rules.specs.Bodies.{method_view}
 use Rattle.rules.specs.After.{after as frame_after}
 use Rattle.rules.specs.Outcomes.{Done}

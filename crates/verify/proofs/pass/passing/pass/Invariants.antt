@@ -1,6 +1,6 @@
 use Rattle.std.proofs.Common.{◌≡◌, length}
 use Rattle.method_frames.specs.MapFrames.{frames_by}
-use Rattle.numbered_rules.specs.Held.{held}
+use Rattle.numbered_rules.specs.RunningFrame.{held}
 use Rattle.rules.specs.Table.{typing_rule}
 use Rattle.rules.specs.Bodies.{method_view}
 use Rattle.verify.specs.Verdict.{code_judged}

@@ -1,5 +1,5 @@
 use Rattle.std.proofs.Common.{◌∙◌, sym}
-use Rattle.numbered_rules.specs.Held.{held}
+use Rattle.numbered_rules.specs.RunningFrame.{held}
 use Rattle.verify.proofs.numbered.Settling.{none_covered}
 use Rattle.verify.proofs.pass.handlers.Handlers.are_idle.Goals as goal
 

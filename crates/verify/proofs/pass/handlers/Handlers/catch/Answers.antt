@@ -1,7 +1,7 @@
 use Rattle.std.proofs.Common.{refl, sym, subst}
 use Rattle.method_frames.specs.NumberedFrames.{NumberedFrames}
 use Rattle.method_frames.specs.MapFrames.{frames_by}
-use Rattle.numbered_rules.specs.Held.{held}
+use Rattle.numbered_rules.specs.RunningFrame.{held}
 use Rattle.rules.specs.Outcomes.{Judges}
 use Rattle.verify.specs.Verdict.{handler_conditions}
 use Rattle.verify.specs.private.pass.Following.{AreHandlers}

@@ -2,7 +2,7 @@ use Rattle.std.proofs.Common.{◌≡◌, ◌∙◌, ℕ, ◌+◌, ◌<◌, List,
 use Rattle.std.proofs.lemmas.Option.{slice_get_read}
 use Rattle.classfile.specs.Methods.{ExceptionEntry}
 use Rattle.method_frames.specs.NumberedFrames.{NumberedFrames}
-use Rattle.numbered_rules.specs.Held.{held}
+use Rattle.numbered_rules.specs.RunningFrame.{held}
 use Rattle.verify.specs.declared.pass.handlers.Handler.{Handler}
 use Rattle.verify.specs.declared.pass.handlers.Handlers.{Handlers}
 use Rattle.verify.specs.private.pass.Following.{IsHandler, Comes, Follows, AreAhead}

@@ -3,7 +3,7 @@ use Rattle.std.specs.Prelude.{IsTrue, IfOk, OnOk}
 use Rattle.frames.specs.Conditions.{least}
 use Rattle.method_frames.specs.NumberedFrames.{NumberedFrames}
 use Rattle.method_frames.specs.MapFrames.{frames_by}
-use Rattle.numbered_rules.specs.Held.{held}
+use Rattle.numbered_rules.specs.RunningFrame.{held}
 use Rattle.verify.specs.Verdict.{handler_conditions}
 use Rattle.verify.specs.private.pass.Following.{Follows}
 use Rattle.verify.proofs.pass.handlers.Handlers.settle.Goals as goal

@@ -1,4 +1,0 @@
-use Rattle.numbered_rules.proofs.values.stores_number.Goals as goal
-
-pub stores-requires-clause-asked : goal.stores-requires-clause-asked
-stores-requires-clause-asked g c = c.number.ensures.given c.args.frames.now.types
