@@ -32,7 +32,7 @@ use Rattle.answers.specs.declared.command.Form.{Form}
 use Rattle.answers.specs.declared.command.Form.TheVariants.{Plain, Json}
 use Rattle.answers.specs.declared.manner.Manner.{Manner}
 use Rattle.answers.specs.declared.manner.Manner.TheVariants.{Told, Explained}
-use Rattle.printing.specs.Parts.{part_lines, attribute_line, part_fields, attribute_fields}
+use Rattle.printing.specs.ClassParts.{part_lines, attribute_line, part_fields, attribute_fields}
 use Rattle.answers.specs.Sentences.{sentence, fault_sentence, sentence_line, fault_line, reason_lines, sentence_fields, reason_sentence_fields, file_fault_number}
 use Rattle.answers.specs.Explanations.{code_part, code_fields, explanation, explanation_object, explanations}
 use Rattle.verify.specs.declared.files.FileFault.{FileFault}

@@ -35,7 +35,7 @@ use Rattle.answers.specs.declared.manner.Manner.TheVariants.{Told, Explained}
 use Rattle.answers.specs.Sentences.{sentence_line, sentence_fields, file_fault_number}
 use Rattle.answers.specs.Explanations.{explanation, explanation_object, explanations}
 use Rattle.printing.specs.FileParts.{file_part_lines, file_part_fields}
-use Rattle.printing.specs.Parts.{part_lines, attribute_line, part_fields, attribute_fields}
+use Rattle.printing.specs.ClassParts.{part_lines, attribute_line, part_fields, attribute_fields}
 use Rattle.verify.specs.declared.files.FileFault.{FileFault}
 use Rattle.verify.specs.declared.files.FileFault.TheVariants.{Malformed, NoClass, Unread}
 use Rattle.verify.specs.Files.{IsDecoded, IsFormed, IsRefused, AreFormed, IsFirstRefused}

@@ -11,7 +11,8 @@ use hierarchy::{Classes, Rows, Summary, summary_of};
 use insn::count_instructions;
 use std::alloc::Global;
 use std::hash::{BuildHasherDefault, FoldHasher};
-use verify::{Report, Verdict, verify_methods};
+use type_numbers::TypeNumbers;
+use verify::{Report, Verdict, verify_by_numbers};
 
 /// The file of this number, empty where there is none.
 fn file<'a>(bytes: &'a [u8], ends: &[u32], number: usize) -> &'a [u8] {
@@ -146,10 +147,15 @@ fn add(report: &Report<'_>, verdicts: &mut Verdicts) {
     }
 }
 
-fn verify_one<C: Classes>(alloc: Global, bytes: &[u8], classes: &C, verdicts: &mut Verdicts) {
+fn verify_one<'a, C: Classes>(
+    alloc: Global,
+    bytes: &'a [u8],
+    numbers: &mut TypeNumbers<'_, 'a, C>,
+    verdicts: &mut Verdicts,
+) {
     if let Ok(class) = decode(alloc, bytes) {
         if let Ok(formed) = form_check(alloc, &class) {
-            if let Ok(report) = verify_methods(alloc, &formed, classes) {
+            if let Ok(report) = verify_by_numbers(alloc, &formed, numbers) {
                 add(&report, verdicts);
             }
         }
@@ -167,8 +173,9 @@ pub extern "C" fn in_process_verify(
     let list = summaries(alloc, bytes, ends);
     let hasher: BuildHasherDefault<FoldHasher> = BuildHasherDefault::new();
     if let Ok(classes) = Rows::new(alloc, &list, hasher) {
+        let mut numbers = TypeNumbers::new(alloc, &classes);
         for number in 0..ends.len() {
-            verify_one(alloc, file(bytes, ends, number), &classes, verdicts);
+            verify_one(alloc, file(bytes, ends, number), &mut numbers, verdicts);
         }
     }
 }

@@ -8,7 +8,7 @@ use Rattle.std.proofs.lemmas.List.{append-nil, length-append, drop-append-le, dr
 use Rattle.insn.specs.Opcodes.{mnemonic}
 use Rattle.insn.specs.Code.{modified}
 use Rattle.insn.specs.Instructions.{Instruction, nothing}
-use Rattle.printing.specs.Instructions.{wide_text, operands_text, instruction_line, named_text, offset_text, beginning_text}
+use Rattle.printing.specs.InstructionLines.{wide_text, operands_text, instruction_line, named_text, offset_text, beginning_text}
 use Rattle.printing.specs.declared.instruction.TheConstants.{EMPTY_LINE}
 
 -- a line is blanks, and from where a name begins on ends of the line

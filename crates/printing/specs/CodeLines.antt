@@ -10,7 +10,7 @@ use Rattle.insn.specs.Offsets.{at_offset}
 use Rattle.insn.specs.CodeResults.{CodeResult, code_result}
 use Rattle.insn.specs.Instructions.{Instruction}
 use Rattle.printing.specs.Faults.{code_fault_text}
-use Rattle.printing.specs.Instructions.{instruction_text, instruction_line}
+use Rattle.printing.specs.InstructionLines.{instruction_text, instruction_line}
 use Rattle.printing.specs.Constants.{named_line, named_fields}
 use Rattle.printing.specs.Json.{Field, number, written, strings}
 use Rattle.printing.specs.NamesIn.{class_in}

@@ -10,7 +10,7 @@ use Rattle.insn.specs.Instructions.{Instruction, Operands, constant, index, invo
 use Rattle.printing.specs.NamesIn.{name_in}
 use Rattle.printing.specs.declared.names_in.Within.{Within}
 use Rattle.printing.specs.declared.names_in.Within.TheVariants.{Words, Json}
-use Rattle.printing.specs.Instructions.{number_text, index_text}
+use Rattle.printing.specs.InstructionLines.{number_text, index_text}
 use Rattle.printing.specs.Json.{Field, written}
 
 -- a text after a blank; nothing where there is none

@@ -6,10 +6,10 @@ pub mod FaultFields
 pub mod Faults
 pub mod FileParts
 pub mod Frames
-pub mod Instructions
+pub mod InstructionLines
 pub mod Json
 pub mod Names
 pub mod NamesIn
-pub mod Parts
+pub mod ClassParts
 pub mod Writing
 pub mod private

@@ -10,7 +10,7 @@ ghost use Rattle.classfile.specs.Views.{handler_view, code_view};
 ghost use Rattle.printing.specs.Writing.{Writes};
 ghost use Rattle.printing.specs.CodeLines.{sizes_line, result_lines, line_at, named_at, fault_of, caught_text, range_text, catch_line, catch_string, code_lines, size_fields, instruction_field, instruction_fields, named_fields_at, table_fields};
 ghost use Rattle.printing.specs.Json.{fields_then};
-ghost use Rattle.printing.specs.Instructions.{instruction_line};
+ghost use Rattle.printing.specs.InstructionLines.{instruction_line};
 ghost use Rattle.printing.specs.Constants.{named_line, named_fields};
 
 use crate::constants::{ConstantFields, ConstantLine, index_in};

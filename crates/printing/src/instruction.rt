@@ -2,7 +2,7 @@
 ghost use Rattle.std.specs.Prelude.{◌≡◌, ◌<◌, ◌++◌, true, codes, length};
 ghost use Rattle.std.specs.List.{flat_map};
 ghost use Rattle.printing.specs.Writing.{Writes};
-ghost use Rattle.printing.specs.Instructions.{target_text, pair_text, wide_text, operands_text, offset_text, beginning_text, instruction_line};
+ghost use Rattle.printing.specs.InstructionLines.{target_text, pair_text, wide_text, operands_text, offset_text, beginning_text, instruction_line};
 ghost use Rattle.insn.specs.Opcodes.{mnemonic};
 ghost use Rattle.insn.specs.Views.{operands_view, located};
 
@@ -28,7 +28,7 @@ impl<I: Integer> Print for Value<I> {
 pub struct Index(pub u16);
 
 impl Print for Index {
-    ghost use Rattle.printing.specs.Instructions.{index_text};
+    ghost use Rattle.printing.specs.InstructionLines.{index_text};
 
     ghost text = { λ t. index_text t.0 };
 
@@ -45,7 +45,7 @@ struct Target {
 }
 
 impl Target {
-    ghost use Rattle.printing.specs.Instructions.{target};
+    ghost use Rattle.printing.specs.InstructionLines.{target};
 
     fn new(at: usize, offset: i32) -> Self
         ensures { (result.at ≡ at) × (result.offset ≡ offset) }
@@ -231,7 +231,7 @@ struct Named<'a>(Located<'a>);
 
 impl<'a> Print for Named<'a> {
     ghost use Rattle.insn.specs.Views.{view};
-    ghost use Rattle.printing.specs.Instructions.{named_text};
+    ghost use Rattle.printing.specs.InstructionLines.{named_text};
 
     ghost text = { λ t. named_text (t.0.at, view t.0.insn) };
 
@@ -247,7 +247,7 @@ pub struct InstructionText<'a>(pub Located<'a>);
 
 impl<'a> Print for InstructionText<'a> {
     ghost use Rattle.insn.specs.Views.{located};
-    ghost use Rattle.printing.specs.Instructions.{instruction_text};
+    ghost use Rattle.printing.specs.InstructionLines.{instruction_text};
 
     ghost text = { λ t. instruction_text (located (t.0.at, t.0.insn)) };
 

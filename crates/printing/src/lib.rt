@@ -16,7 +16,7 @@
 //! - `frame` writes the lines of a frame, and a frame as fields
 //! - `differences` writes the line of the first difference of two frames, and its fields
 //! - `constants` writes a constant, by a line or as a field
-//! - `parts` writes a part of a class that was decoded and breaks a rule, and its attribute that does, by lines or as
+//! - `class_parts` writes a part of a class that was decoded and breaks a rule, and its attribute that does, by lines or as
 //!   fields
 //! - `file_parts` writes a part of a file whose bytes are no class: the one in which the fault lies, by lines or as
 //!   fields
@@ -25,6 +25,7 @@
 #![tactic(auto)]
 
 mod class_attributes;
+mod class_parts;
 mod code;
 mod constants;
 mod differences;
@@ -37,10 +38,10 @@ mod json;
 mod listing;
 mod name;
 mod names_in;
-mod parts;
 mod print;
 mod runs;
 
+pub use class_parts::{AttributeFields, AttributeLine, PartFields, PartLines};
 pub use code::{
     Handlers, HandlersField, InstructionAt, InstructionFields, NamedAt, NamedFields, SizeFields,
     Sizes,
@@ -53,5 +54,4 @@ pub use json::{END, Enclosed, More, Object, Quoted, QuotedName, QuotedSpelled, S
 pub use listing::Listing;
 pub use name::{ClassName, ConstantText, Hexadecimal, Name, Spelled};
 pub use names_in::Within;
-pub use parts::{AttributeFields, AttributeLine, PartFields, PartLines};
 pub use print::{Lines, Number, Print, Then, Word, WriteFailed, put_bytes, put_lines};

@@ -5,11 +5,12 @@ use hierarchy::{Rows, summary_of};
 use lower_calls::making::{hasher, object};
 use std::alloc::{AllocError, Global};
 use std::test::*;
+use type_numbers::TypeNumbers;
 use verify::{
     ClassFault, MethodVerdict, Report, Verdict, VerifyFault, fits_breadth, frames_are_judged,
     map_refused_where, one_frames, one_report, one_verdict, refused_breaks, refused_where,
-    type_safe_is_safe, type_safe_is_verified, verified_is_type_safe, verify_class, verify_method,
-    verify_methods,
+    type_safe_is_safe, type_safe_is_verified, verified_is_type_safe, verify_by_numbers,
+    verify_class, verify_method, verify_methods,
 };
 
 #[test]
@@ -120,6 +121,43 @@ fn is_report_or(alloc: Global, or_none: bool) -> bool {
 #[test]
 fn a_report(rt: HostRuntime) {
     assert!(rt; is_report_or(rt.alloc(), false));
+}
+
+fn is_of_k(report: Result<Report<'_>, ClassFault>) -> bool {
+    match report {
+        Ok(report) => matches!(report.methods.as_slice(), [verdict] if is_verdict_of_k(verdict)),
+        Err(_) => false,
+    }
+}
+
+/// Whether K is reported by numbers of types, and once more by the numbers that served it.
+fn is_reported_by_numbers(alloc: Global, formed: &Formed<'_, '_>) -> bool {
+    let Ok(own) = summary_of(alloc, formed) else {
+        return false;
+    };
+    match Rows::new(alloc, &[object(alloc), own], hasher()) {
+        Ok(classes) => {
+            let mut numbers = TypeNumbers::new(alloc, &classes);
+            is_of_k(verify_by_numbers(alloc, formed, &mut numbers))
+                && is_of_k(verify_by_numbers(alloc, formed, &mut numbers))
+        }
+        Err(_) => false,
+    }
+}
+
+fn is_k_reported_by_numbers(alloc: Global) -> bool {
+    let Ok(class) = decode(alloc, &K) else {
+        return false;
+    };
+    match form_check(alloc, &class) {
+        Ok(formed) => is_reported_by_numbers(alloc, &formed),
+        Err(_) => false,
+    }
+}
+
+#[test]
+fn reports_by_numbers(rt: HostRuntime) {
+    assert!(rt; is_k_reported_by_numbers(rt.alloc()));
 }
 
 /// Where memory runs out there is no report, and otherwise the whole one.

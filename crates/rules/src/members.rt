@@ -122,7 +122,7 @@ impl<'k, 'c, 'a, C: Classes> Members<'k, 'c, 'a, C> {
     }
 
     /// Whether the class at a place among the classes is that at another place or stands below it, as
-    /// [`Classes::is_below`] says it. No clause says what is answered for a place of no class.
+    /// [`Classes::is_below`] says it. Nothing is said of a place of no class.
     #[inline(always)]
     pub fn is_below(&self, class: u16, other: u16) -> bool
         ensures { (x y : List ℕ) → place_in self.now.classes x ≡ Some class

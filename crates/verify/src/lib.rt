@@ -83,7 +83,8 @@ pub use laws::{
 pub use method::verify_method;
 pub use play::{PlayFault, PlayRule, verify_play};
 pub use report::{
-    ClassFault, MethodVerdict, Report, verify_class, verify_class_under, verify_methods,
+    ClassFault, MethodVerdict, Report, verify_by_numbers, verify_class, verify_class_under,
+    verify_methods,
 };
 pub use theorem::{type_safe_is_safe, verified_is_playable};
 pub use verdict::{Verdict, VerifyFault};

@@ -126,8 +126,8 @@ pub fn report_listed<'a, C: Classes>(
     }
 }
 
-/// The verdicts on the methods of a class as [`verify_methods`] gives them, by numbers of types that may have served
-/// other classes, and may serve more of them.
+/// The verdicts on the methods of a class in the hierarchy of these numbers, as [`verify_methods`] gives them. The
+/// numbers may have served other classes and may serve more: they keep the places of the classes that were looked up.
 pub fn verify_by_numbers<'a, C: Classes>(
     alloc: Global,
     formed: &Formed<'_, 'a>,

@@ -4,7 +4,7 @@ use Rattle.layout.specs.declared.fault.ReadFault.{ReadFault}
 use Rattle.classfile.specs.FileParts.{fault_part}
 use Rattle.classfile.specs.declared.file_parts.FilePart.{FilePart}
 use Rattle.classfile.specs.Views.{class_view}
-use Rattle.printing.specs.Parts.{part_lines, attribute_line}
+use Rattle.printing.specs.ClassParts.{part_lines, attribute_line}
 use Rattle.printing.specs.FileParts.{file_part_lines}
 use Rattle.verify.specs.declared.files.FileFault.{FileFault}
 use Rattle.verify.specs.declared.files.FileFault.TheVariants.{NoClass, Unread}

@@ -5,7 +5,7 @@ use Rattle.classfile.specs.FileParts.{fault_part}
 use Rattle.classfile.specs.declared.file_parts.FilePart.{FilePart}
 use Rattle.classfile.specs.Views.{class_view}
 use Rattle.printing.specs.Json.{Field, fields_then, fields_behind, object_end}
-use Rattle.printing.specs.Parts.{part_fields, attribute_fields}
+use Rattle.printing.specs.ClassParts.{part_fields, attribute_fields}
 use Rattle.printing.specs.FileParts.{file_part_fields}
 use Rattle.printing.proofs.Fields.{fields_of_both}
 use Rattle.verify.specs.declared.files.FileFault.{FileFault}

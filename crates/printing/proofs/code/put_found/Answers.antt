@@ -2,7 +2,7 @@ use Rattle.std.proofs.Common.{[], Option, sym, subst}
 use Rattle.std.specs.Option.{option_map_or}
 use Rattle.insn.specs.declared.instruction.Insn.{Insn}
 use Rattle.insn.specs.Views.{view}
-use Rattle.printing.specs.Instructions.{instruction_line}
+use Rattle.printing.specs.InstructionLines.{instruction_line}
 use Rattle.printing.specs.Writing.{Writes}
 use Rattle.printing.proofs.code.put_found.Goals as goal
 

@@ -3,7 +3,7 @@ use Rattle.std.specs.List.{flat_map}
 use Rattle.insn.specs.declared.instruction.Insn.{Insn}
 use Rattle.insn.specs.Views.{located}
 use Rattle.insn.proofs.CodeResults.{result_at, whole_reading}
-use Rattle.printing.specs.Instructions.{instruction_line}
+use Rattle.printing.specs.InstructionLines.{instruction_line}
 use Rattle.printing.proofs.Steps.{step_is, fault_here, end_is, left_behind, no_list, nothing_left}
 use Rattle.printing.proofs.Writings.{none_so_far, with_left, one_more, stops_inside, all_written}
 use Rattle.printing.proofs.code.put_instructions.Goals as goal

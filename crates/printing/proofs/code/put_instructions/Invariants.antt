@@ -4,7 +4,7 @@ use Rattle.std.specs.List.{flat_map}
 use Rattle.insn.specs.Instructions.{Instruction}
 use Rattle.insn.specs.CodeResults.{code_result}
 use Rattle.insn.proofs.CodeResults.{result_at}
-use Rattle.printing.specs.Instructions.{instruction_line}
+use Rattle.printing.specs.InstructionLines.{instruction_line}
 use Rattle.printing.proofs.Writings.{SoFar}
 use Rattle.printing.proofs.code.put_instructions.Given as goal
 

@@ -1,6 +1,6 @@
 use Rattle.std.proofs.Common.{subst, decimal}
 use Rattle.insn.specs.Views.{view}
-use Rattle.printing.specs.Instructions.{named_text}
+use Rattle.printing.specs.InstructionLines.{named_text}
 use Rattle.printing.specs.Writing.{Writes}
 use Rattle.printing.proofs.OffsetTexts.{line_parts}
 use Rattle.printing.proofs.instruction.put_with_operands.Goals as goal

@@ -4,7 +4,7 @@ use Rattle.insn.specs.Instructions.{Instruction}
 use Rattle.insn.specs.CodeResults.{code_result}
 use Rattle.insn.specs.Views.{view}
 use Rattle.printing.specs.CodeLines.{line_at}
-use Rattle.printing.specs.Instructions.{instruction_line}
+use Rattle.printing.specs.InstructionLines.{instruction_line}
 use Rattle.printing.specs.Writing.{Writes}
 use Rattle.printing.proofs.Steps.{is_list, is_fault}
 use Rattle.printing.proofs.code.InstructionAtPrint.put.Goals as goal

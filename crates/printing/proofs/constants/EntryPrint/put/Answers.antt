@@ -2,7 +2,7 @@ use Rattle.std.proofs.Common.{◌≡◌, ◌∙◌, ◌++◌, codes, ap, sym, su
 use Rattle.pool.specs.Views.{view}
 use Rattle.pool.specs.declared.constant.Constant.{Constant}
 use Rattle.printing.specs.Writing.{Writes}
-use Rattle.printing.specs.Instructions.{number_text, index_text}
+use Rattle.printing.specs.InstructionLines.{number_text, index_text}
 use Rattle.printing.specs.Constants.{entry_text}
 use Rattle.printing.proofs.constants.EntryPrint.put.Goals as goal
 

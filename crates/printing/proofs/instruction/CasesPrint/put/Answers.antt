@@ -5,7 +5,7 @@ use Rattle.printing.specs.Writing.{AppendsFront}
 use Rattle.std.specs.List.{flat_map}
 use Rattle.insn.specs.Instructions.{pairs}
 use Rattle.insn.specs.Views.{pairs_left}
-use Rattle.printing.specs.Instructions.{pair_text}
+use Rattle.printing.specs.InstructionLines.{pair_text}
 use Rattle.printing.proofs.Writings.{with_left, one_more, stops_inside}
 use Rattle.printing.proofs.instruction.CasesPrint.put.Goals as goal
 

@@ -2,7 +2,7 @@
 use Rattle.std.specs.List.{flat_map}
 use Rattle.insn.specs.Instructions.{pairs}
 use Rattle.insn.specs.Views.{pairs_left}
-use Rattle.printing.specs.Instructions.{pair_text}
+use Rattle.printing.specs.InstructionLines.{pair_text}
 use Rattle.printing.proofs.Writings.{SoFar}
 use Rattle.printing.proofs.instruction.CasesPrint.put.Given as goal
 

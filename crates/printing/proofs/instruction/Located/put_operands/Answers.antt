@@ -5,7 +5,7 @@ use Rattle.insn.specs.Meanings.{offsets}
 use Rattle.insn.specs.Switches.{table_switch_of, default_of, low_of, high_of, table_of}
 use Rattle.insn.specs.Views.{operands_view}
 use Rattle.printing.specs.Writing.{Writes}
-use Rattle.printing.specs.Instructions.{value_text, target_text, operands_text}
+use Rattle.printing.specs.InstructionLines.{value_text, target_text, operands_text}
 use Rattle.printing.proofs.instruction.Located.put_operands.Goals as goal
 
 -- the text of parts that are those of a `tableswitch`

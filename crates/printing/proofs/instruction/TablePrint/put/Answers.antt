@@ -5,7 +5,7 @@ use Rattle.printing.specs.Writing.{AppendsFront}
 use Rattle.std.specs.List.{flat_map}
 use Rattle.insn.specs.Meanings.{offsets}
 use Rattle.insn.specs.Views.{offsets_left}
-use Rattle.printing.specs.Instructions.{target_text}
+use Rattle.printing.specs.InstructionLines.{target_text}
 use Rattle.printing.proofs.Writings.{with_left, one_more, stops_inside}
 use Rattle.printing.proofs.instruction.TablePrint.put.Goals as goal
 

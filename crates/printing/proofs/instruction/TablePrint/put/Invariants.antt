@@ -2,7 +2,7 @@
 use Rattle.std.specs.List.{flat_map}
 use Rattle.insn.specs.Meanings.{offsets}
 use Rattle.insn.specs.Views.{offsets_left}
-use Rattle.printing.specs.Instructions.{target_text}
+use Rattle.printing.specs.InstructionLines.{target_text}
 use Rattle.printing.proofs.Writings.{SoFar}
 use Rattle.printing.proofs.instruction.TablePrint.put.Given as goal
 

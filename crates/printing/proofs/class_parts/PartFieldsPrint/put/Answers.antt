@@ -2,9 +2,9 @@ use Rattle.std.proofs.Common.{sym, subst}
 use Rattle.classfile.specs.Views.{class_view}
 use Rattle.classfile.specs.declared.form_fault.Place.{Place}
 use Rattle.printing.specs.Json.{fields_then}
-use Rattle.printing.specs.Parts.{part_fields}
+use Rattle.printing.specs.ClassParts.{part_fields}
 use Rattle.printing.specs.Writing.{Writes}
-use Rattle.printing.proofs.parts.PartFieldsPrint.put.Goals as goal
+use Rattle.printing.proofs.class_parts.PartFieldsPrint.put.Goals as goal
 
 pub returns-in-Class : goal.returns-in-Class
 returns-in-Class g c =

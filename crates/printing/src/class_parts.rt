@@ -5,7 +5,7 @@ ghost use Rattle.std.specs.Option.{option_map_or};
 ghost use Rattle.classfile.specs.Views.{member_view, class_view};
 ghost use Rattle.printing.specs.Classes.{member_line};
 ghost use Rattle.printing.specs.Json.{fields_then};
-ghost use Rattle.printing.specs.Parts.{part_lines, numbered_line, attribute_line, member_fields, super_fields, class_fields, part_fields, numbered_fields, attribute_fields};
+ghost use Rattle.printing.specs.ClassParts.{part_lines, numbered_line, attribute_line, member_fields, super_fields, class_fields, part_fields, numbered_fields, attribute_fields};
 ghost use Rattle.printing.specs.Writing.{Writes};
 
 use crate::constants::{ConstantFields, ConstantLine, TextBehind};

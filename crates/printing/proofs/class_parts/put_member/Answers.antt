@@ -4,7 +4,7 @@ use Rattle.std.proofs.lemmas.Option.{slice_get-map, slice_get-get_or, slice_get_
 use Rattle.classfile.specs.Views.{member_view}
 use Rattle.printing.specs.Classes.{member_line}
 use Rattle.printing.specs.Writing.{Writes}
-use Rattle.printing.proofs.parts.put_member.Goals as goal
+use Rattle.printing.proofs.class_parts.put_member.Goals as goal
 
 pub returns-in-Some : goal.returns-in-Some
 returns-in-Some g c =

@@ -1,9 +1,9 @@
 use Rattle.std.proofs.Common.{sym, subst}
 use Rattle.classfile.specs.Views.{class_view}
 use Rattle.classfile.specs.declared.form_fault.Place.{Place}
-use Rattle.printing.specs.Parts.{part_lines}
+use Rattle.printing.specs.ClassParts.{part_lines}
 use Rattle.printing.specs.Writing.{Writes}
-use Rattle.printing.proofs.parts.PartLinesPrint.put.Goals as goal
+use Rattle.printing.proofs.class_parts.PartLinesPrint.put.Goals as goal
 
 pub returns-in-Class : goal.returns-in-Class
 returns-in-Class g c =

@@ -3,9 +3,9 @@ use Rattle.std.specs.Option.{option_map_or}
 use Rattle.std.proofs.lemmas.Option.{slice_get-map, slice_get-get_or, slice_get_past}
 use Rattle.classfile.specs.Views.{member_view}
 use Rattle.printing.specs.Json.{fields_then}
-use Rattle.printing.specs.Parts.{member_fields}
+use Rattle.printing.specs.ClassParts.{member_fields}
 use Rattle.printing.specs.Writing.{Writes}
-use Rattle.printing.proofs.parts.put_member_fields.Goals as goal
+use Rattle.printing.proofs.class_parts.put_member_fields.Goals as goal
 
 pub returns-in-Some : goal.returns-in-Some
 returns-in-Some g c =
