@@ -12,7 +12,7 @@ use Rattle.type_numbers.specs.Numbers.{Numbering}
 use Rattle.type_numbers.specs.Decoding.{type_by, types_by}
 use Rattle.method_frames.specs.NumberedFrames.{NumberedFrames}
 use Rattle.rules.specs.declared.reason.Reason.{Reason}
-use Rattle.rules.specs.TypingRules.{number, counts}
+use Rattle.rules.specs.TypingRules.{number, increments}
 use Rattle.rules.specs.After.{or_top, local_of, after}
 use Rattle.rules.specs.Rules.{accepts, conditions, is_outside, is_too_wide}
 use Rattle.rules.specs.Outcomes.{Done, settled}
@@ -30,11 +30,11 @@ local_typed x n place m e at = ap (λ k. local_of k (held x)) (sym e) ∙ typed_
 -- ---- iinc
 
 module _ (cs : List ClassFact) (m : Method Act) (n : ℕ) (f : FrameFact) (inside : is_outside m n 1 ≡ false) where
-  pub count_no : accepts cs (number Int) (local_of n f) ≡ no → least (conditions cs m 0 (counts n) f) ≡ Some (reason 63)
+  pub count_no : accepts cs (number Int) (local_of n f) ≡ no → least (conditions cs m 0 (increments n) f) ≡ Some (reason 63)
   count_no e = local_no (is_outside m n 1) (accepts cs (number Int) (local_of n f)) (is_too_wide m f) inside e
 
-  pub count_done : (a : Outcome) (r : Result Unit Reason) → a ≡ accepts cs (number Int) (local_of n f) → (a ≡ no → ⊥) → Done (settled m a f) f f r → Done (conditions cs m 0 (counts n) f) (after m 0 (counts n) f) f r
+  pub count_done : (a : Outcome) (r : Result Unit Reason) → a ≡ accepts cs (number Int) (local_of n f) → (a ≡ no → ⊥) → Done (settled m a f) f f r → Done (conditions cs m 0 (increments n) f) (after m 0 (increments n) f) f r
   count_done a r told ne d =
-      redone (conditions cs m 0 (counts n) f) (settled m a f) f f f r
+      redone (conditions cs m 0 (increments n) f) (settled m a f) f f f r
       (local_settled (is_outside m n 1) (accepts cs (number Int) (local_of n f)) (is_too_wide m f) inside (λ e. ne (told ∙ e)) ∙ ap (λ z. least (settled m z f)) (sym told))
       refl d

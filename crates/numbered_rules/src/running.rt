@@ -22,7 +22,7 @@ use crate::fields::{get_field, get_static, put_field, put_static};
 use crate::object_creation::new_object;
 use crate::returning::{return_nothing, return_number, return_reference};
 use crate::rule_numbers::{NamedFacts, RuleNumbers};
-use crate::shared_rules::counts;
+use crate::shared_rules::increments;
 use crate::simple_rules::{
     array_length, computes, gives_null, gives_number, loads_number, loads_reference, stores_number,
     stores_reference, takes_int, takes_ints, takes_nothing, takes_reference, takes_references,

@@ -5,7 +5,7 @@ ghost use Rattle.hierarchy.specs.Answer.{outcome_of};
 ghost use Rattle.frames.specs.Slots.{units_of};
 ghost use Rattle.type_numbers.specs.Numbers.{IsGiven};
 ghost use Rattle.type_numbers.specs.Decoding.{type_by};
-ghost use Rattle.rules.specs.TypingRules.{ExpectedType, pops, loads, counts};
+ghost use Rattle.rules.specs.TypingRules.{ExpectedType, pops, loads, increments};
 ghost use Rattle.rules.specs.After.{after};
 ghost use Rattle.rules.specs.Rules.{conditions};
 ghost use Rattle.rules.specs.Bodies.{method_view};
@@ -185,7 +185,7 @@ pub fn increments<'n, C: Classes>(
     frames: &MethodFrames<'_, '_, 'n, C>,
 ) -> Result<(), Reason<'n>>
     requires { length frames.now.running.locals ≡ method.now.code.now.max_locals }
-    ensures { let m = method_view method.now in let f = held frames.now in let p = counts local in
+    ensures { let m = method_view method.now in let f = held frames.now in let p = increments local in
         Done (conditions frames.now.types.classes m 0 p f) (after m 0 p f) f result }
 {
     let place = usize::from(local);

@@ -17,7 +17,7 @@ use Rattle.frames.specs.Conditions as conditions
 use Rattle.frames.specs.Conditions.{Reason, reason, Conditions, lesser, least, missing_if, number_of}
 use Rattle.frames.specs.Differences.{is_no}
 use Rattle.frames.proofs.Differences.{no_both, some_map, some_flag, the_some}
-use Rattle.rules.specs.TypingRules.{ExpectedType, number, any_reference, TypingRule, pops, loads, stores, counts, rearranges, loads_element, makes, constructs, calls_special, returns, refuses}
+use Rattle.rules.specs.TypingRules.{ExpectedType, number, any_reference, TypingRule, pops, loads, stores, increments, rearranges, loads_element, makes, constructs, calls_special, returns, refuses}
 use Rattle.rules.specs.Table.{typing_rule, object_array}
 use Rattle.rules.specs.After.{form_for, top_of, local_of, after}
 use Rattle.rules.specs.Rules.{accepts, is_short, operands, operand_conditions, is_outside, local_answer, local_conditions, is_on_stack, may_construct, special_conditions, family, gives_frame, is_too_wide}
@@ -231,7 +231,7 @@ module _ (classes : List ClassFact) (m : Method Act) (at : ℕ) (f : FrameFact) 
   found_missing (pops ws gs offsets on) e h = operands_missing (expected_types (pops ws gs offsets on)) h
   found_missing (loads w n k) e h = absurd (true≢false (sym h ∙ none_missing 61 (local_answer classes m w n k f)))
   found_missing (stores w n k) e h = operands_missing (expected_types (stores w n k)) h
-  found_missing (counts n) e h = absurd (true≢false (sym h ∙ none_missing 61 (local_answer classes m (number Int) n 1 f)))
+  found_missing (increments n) e h = absurd (true≢false (sym h ∙ none_missing 61 (local_answer classes m (number Int) n 1 f)))
   found_missing (rearranges forms) e h =
       let short = nat_lt (units_of f.stack) (units_taken forms) in
       of_units (expected_types (rearranges forms)) (by short (only_first short false refl h))
@@ -270,7 +270,7 @@ module _ (classes : List ClassFact) (m : Method Act) (at : ℕ) (f : FrameFact) 
   found_wrong (pops ws gs offsets on) e h = inl (operands_wrong (expected_types (pops ws gs offsets on)) h)
   found_wrong (loads w n k) e h = absurd (true≢false (sym h ∙ none_missing 62 (local_answer classes m w n k f)))
   found_wrong (stores w n k) e h = inl (operands_wrong (expected_types (stores w n k)) h)
-  found_wrong (counts n) e h = absurd (true≢false (sym h ∙ none_missing 62 (local_answer classes m (number Int) n 1 f)))
+  found_wrong (increments n) e h = absurd (true≢false (sym h ∙ none_missing 62 (local_answer classes m (number Int) n 1 f)))
   found_wrong (rearranges forms) e h = inr (of_no_form forms refl (nothing (form_for forms f.stack) (only_first (is_none (form_for forms f.stack)) false refl h)))
     where
       nothing : {A : Type 0} (o : Option A) → is_none o ≡ true → o ≡ None
@@ -317,7 +317,7 @@ module _ (classes : List ClassFact) (m : Method Act) (at : ℕ) (f : FrameFact) 
   found_local (pops ws gs offsets on) e h = absurd (operands_local ws h)
   found_local (loads w n k) e h = of_local (expected_types (loads w n k)) (local_wrong w n k h)
   found_local (stores w n k) e h = absurd (operands_local (w ∷ []) h)
-  found_local (counts n) e h = of_local (expected_types (counts n)) (local_wrong (number Int) n 1 h)
+  found_local (increments n) e h = of_local (expected_types (increments n)) (local_wrong (number Int) n 1 h)
   found_local (rearranges forms) e h = absurd (true≢false (sym h))
   found_local loads_element e h = absurd (operands_local (number Int ∷ object_array ∷ []) h)
   found_local (makes name) e h = absurd (true≢false (sym h))
@@ -395,7 +395,7 @@ module _ (k : ℕ) (x : IsOfNoRule k) where
     family_none (pops ws gs offsets on) e h = taken_none ws h
     family_none (loads w n j) e h = local_none w n j h
     family_none (stores w n j) e h = taken_none (w ∷ []) (past 64 (is_outside m n j) (operand_conditions classes (w ∷ []) f.stack) x.not_outside h)
-    family_none (counts n) e h = local_none (number Int) n 1 h
+    family_none (increments n) e h = local_none (number Int) n 1 h
     family_none (rearranges forms) e h =
         nothing_left (past 62 (is_none (form_for forms f.stack)) [] x.not_wrong
         (past 61 (nat_lt (units_of f.stack) (units_taken forms)) ((reason 62, is_none (form_for forms f.stack)) ∷ []) x.not_missing h))

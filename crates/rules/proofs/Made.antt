@@ -13,7 +13,7 @@ use Rattle.frames.specs.Marks.{new_index}
 use Rattle.frames.specs.VerificationType.{VerificationType}
 use Rattle.rules.specs.Constants.{new_object, invoke_special, constructor_call, special_call, is_init_name, has_room_for_receiver, may_name}
 use Rattle.rules.specs.Rules.{constructs_own}
-use Rattle.rules.specs.TypingRules.{ExpectedType, expected_of, arguments_on, TypingRule, pops, loads, stores, counts, rearranges, loads_element, makes, constructs, calls_special, returns, refuses, where_allowed}
+use Rattle.rules.specs.TypingRules.{ExpectedType, expected_of, arguments_on, TypingRule, pops, loads, stores, increments, rearranges, loads_element, makes, constructs, calls_special, returns, refuses, where_allowed}
 use Rattle.rules.specs.Table.{typing_rule, class_made, made_by}
 use Rattle.rules.specs.Ways.{keeps_locals, special_index}
 use Rattle.rules.proofs.KeptLocals.{changes_none, by_typing_rule}
@@ -22,7 +22,7 @@ no_class : (p : TypingRule) → changes_none p ≡ true → None ≡ class_made 
 no_class (pops expected_types gives offsets on) e = refl
 no_class (loads expected n width) e = refl
 no_class (stores expected n width) e = refl
-no_class (counts n) e = refl
+no_class (increments n) e = refl
 no_class (rearranges forms) e = refl
 no_class loads_element e = refl
 no_class (makes name) e = cc
@@ -115,7 +115,7 @@ no_call : (p : TypingRule) (f : FrameFact) → changes_none p ≡ true → const
 no_call (pops expected_types gives offsets on) f e = refl
 no_call (loads expected n width) f e = refl
 no_call (stores expected n width) f e = cc
-no_call (counts n) f e = refl
+no_call (increments n) f e = refl
 no_call (rearranges forms) f e = refl
 no_call loads_element f e = refl
 no_call (makes name) f e = cc

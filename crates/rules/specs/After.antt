@@ -11,7 +11,7 @@ use Rattle.frames.specs.VerificationType.{VerificationType, top, int, float, lon
 use Rattle.frames.specs.FrameFact.{FrameFact}
 use Rattle.frames.specs.Slots.{is_wide}
 use Rattle.frames.specs.Objects.{is_made_at, is_initialized}
-use Rattle.rules.specs.TypingRules.{ExpectedType, TypingRule, pops, loads, stores, counts, rearranges, loads_element, makes, constructs, calls_special, returns, refuses}
+use Rattle.rules.specs.TypingRules.{ExpectedType, TypingRule, pops, loads, stores, increments, rearranges, loads_element, makes, constructs, calls_special, returns, refuses}
 
 -- ---- the stack
 
@@ -139,7 +139,7 @@ abbrev pub after : Method Act → ℕ → TypingRule → FrameFact → FrameFact
 after m at (pops expected_types gives offsets on) f = popped expected_types gives f
 after m at (loads expected n width) f = loaded n f
 after m at (stores expected n width) f = stored n f
-after m at (counts n) f = f
+after m at (increments n) f = f
 after m at (rearranges forms) f = with_stack f (rearranged_by (form_for forms f.stack) f.stack)
 after m at loads_element f = with_stack f (element_of (top_of (rest_of f.stack)) ∷ rest_of (rest_of f.stack))
 after m at (makes name) f = record { locals = map (forgotten at) f.locals; stack = uninit at ∷ f.stack; flag = f.flag }

@@ -3,7 +3,7 @@
 use Rattle.std.specs.Prelude.{ℕ, List, [], ◌∷◌, map, Option, Some, None, option_map}
 use Rattle.insn.specs.declared.kinds.Kind.TheVariants as kinds
 use Rattle.insn.specs.OperandStacks.{units_taken}
-use Rattle.rules.specs.TypingRules.{ExpectedType, number, TypingRule, pops, loads, stores, counts, rearranges, loads_element, makes, constructs, calls_special, returns, refuses}
+use Rattle.rules.specs.TypingRules.{ExpectedType, number, TypingRule, pops, loads, stores, increments, rearranges, loads_element, makes, constructs, calls_special, returns, refuses}
 use Rattle.rules.specs.Table.{object_array}
 use Rattle.rules.specs.Views.{expected_view}
 use Rattle.rules.specs.declared.expected_types.ExpectedLocal.{ExpectedLocal as RawExpectedLocal}
@@ -47,7 +47,7 @@ abbrev pub expected_types : TypingRule → ExpectedTypes
 expected_types (pops types gives offsets on) = of_operands types
 expected_types (loads expected n width) = of_local n width expected
 expected_types (stores expected n width) = of_operands (expected ∷ [])
-expected_types (counts n) = of_local n 1 (number kinds.Int)
+expected_types (increments n) = of_local n 1 (number kinds.Int)
 expected_types (rearranges forms) = of_units (units_taken forms)
 expected_types loads_element = of_operands (number kinds.Int ∷ object_array ∷ [])
 expected_types (makes name) = of_nothing

@@ -17,7 +17,7 @@ use Rattle.frames.specs.DeclaredFrames.{is_uninit_this}
 use Rattle.frames.specs.Slots.{number_type, to_reference, units_of}
 use Rattle.frames.specs.Conditions.{Reason, reason, class_missing, with_fault, Conditions, is_no, missing_if}
 use Rattle.rules.specs.ReasonNumbers.{missing_operand, wrong_operand, wrong_local, local_out_of_range, stack_over, wrong_constant, own_object_not_ready}
-use Rattle.rules.specs.TypingRules.{ExpectedType, number, assignable_to, any_reference, any_array, any_array_for, own_or_assignable_to, TypingRule, pops, loads, stores, counts, rearranges, loads_element, makes, constructs, calls_special, returns, refuses}
+use Rattle.rules.specs.TypingRules.{ExpectedType, number, assignable_to, any_reference, any_array, any_array_for, own_or_assignable_to, TypingRule, pops, loads, stores, increments, rearranges, loads_element, makes, constructs, calls_special, returns, refuses}
 use Rattle.rules.specs.Table.{class_made_at, object_array}
 use Rattle.frames.specs.Objects.{is_made_at}
 use Rattle.rules.specs.After.{top_of, local_of, form_for, after}
@@ -130,7 +130,7 @@ family classes m at (pops expected_types gives offsets on) f = operand_condition
 family classes m at (loads expected n width) f = local_conditions classes m expected n width f
 family classes m at (stores expected n width) f =
     (reason local_out_of_range, is_outside m n width) ∷ operand_conditions classes (expected ∷ []) f.stack
-family classes m at (counts n) f = local_conditions classes m (number kinds.Int) n 1 f
+family classes m at (increments n) f = local_conditions classes m (number kinds.Int) n 1 f
 family classes m at (rearranges forms) f =
     (reason missing_operand, nat_lt (units_of f.stack) (units_taken forms))
     ∷ (reason wrong_operand, is_none (form_for forms f.stack)) ∷ []

@@ -15,7 +15,7 @@ use Rattle.insn.specs.Meanings.{Act}
 use Rattle.frames.specs.VerificationType.{int, null}
 use Rattle.frames.specs.Slots.{number_type}
 use Rattle.rules.specs.ReasonNumbers.{not_supported, wrong_return}
-use Rattle.rules.specs.TypingRules.{ExpectedType, number, assignable_to, any_reference, any_array, any_array_for, TypingRule, pops, loads, stores, counts, rearranges, loads_element, makes, returns, refuses, takes, gives, expected_class, numbers}
+use Rattle.rules.specs.TypingRules.{ExpectedType, number, assignable_to, any_reference, any_array, any_array_for, TypingRule, pops, loads, stores, increments, rearranges, loads_element, makes, returns, refuses, takes, gives, expected_class, numbers}
 use Rattle.rules.specs.Constants.{is_bootstrapped, load_constant, load_wide_constant, get_static, put_static, get_field, put_field, invoke_static, invoke_virtual, invoke_interface, invoke_special, invoke_dynamic, new_object, new_array, new_reference_array, new_multi_array, check_cast, instance_of}
 
 -- ---- returns: an instruction of another kind than the method's result is refused by wrong_return (76)
@@ -66,7 +66,7 @@ typing_rule m (acts.Store kind n) = stores (number kind) n (kind_units kind)
 -- astore, astore_<n>
 typing_rule m (acts.StoreReference n) = stores any_reference n 1
 -- iinc
-typing_rule m (acts.Increment n) = counts n
+typing_rule m (acts.Increment n) = increments n
 -- iadd, ladd, fadd, dadd, and so sub, mul, div, rem, neg; ishl, lshl, ishr, lshr, iushr, lushr; iand, land, ior, lor,
 -- ixor, lxor; i2l, i2f, i2d, l2i, l2f, l2d, f2i, f2l, f2d, d2i, d2l, d2f, i2b, i2c, i2s; lcmp, fcmp<op>, dcmp<op>
 typing_rule m (acts.Numeric operator) =

@@ -31,7 +31,7 @@ pub data TypingRule : Type 0 where
       → TypingRule
   loads : (expected : ExpectedType) (local width : ℕ) → TypingRule
   stores : (expected : ExpectedType) (local width : ℕ) → TypingRule
-  counts : (local : ℕ) → TypingRule
+  increments : (local : ℕ) → TypingRule
   rearranges : (forms : List StackForm) → TypingRule
   -- aaload
   loads_element : TypingRule

@@ -7,7 +7,7 @@ use Rattle.insn.specs.Offsets.{at_offset}
 use Rattle.frames.specs.VerificationType.{VerificationType}
 use Rattle.frames.specs.FrameFact.{FrameFact}
 use Rattle.frames.specs.Slots.{is_wide}
-use Rattle.rules.specs.TypingRules.{TypingRule, pops, loads, stores, counts, rearranges, loads_element, makes, constructs, calls_special, returns, refuses}
+use Rattle.rules.specs.TypingRules.{TypingRule, pops, loads, stores, increments, rearranges, loads_element, makes, constructs, calls_special, returns, refuses}
 use Rattle.rules.specs.After.{top_of, top_first, stored_type, forgotten, class_after, initialized, after}
 use Rattle.insn.specs.OperandStacks.{beneath}
 use Rattle.verify.specs.InitialFrames.{initial_types}
@@ -33,7 +33,7 @@ pub after_length : (m : Method Act) (at : ℕ) (p : TypingRule) (f : FrameFact) 
 after_length m at (pops ws gs offsets on) f = refl
 after_length m at (loads w n width) f = refl
 after_length m at (stores w n width) f = stored_length (top_of f.stack) n f.locals
-after_length m at (counts n) f = refl
+after_length m at (increments n) f = refl
 after_length m at (rearranges forms) f = refl
 after_length m at loads_element f = refl
 after_length m at (makes name) f = length-map f.locals (forgotten at)
