@@ -1,5 +1,5 @@
 //! The expected types of operands and local variables, by the numbers of types.
-ghost use Rattle.std.specs.Prelude.{◌≡◌, true};
+ghost use Rattle.std.specs.Prelude.{◌≡◌, ◌||◌, nat_eq, nat_lt, true};
 ghost use Rattle.hierarchy.specs.Answer.{outcome_of, yes};
 ghost use Rattle.type_numbers.specs.Numbers.{Numbering, IsGiven};
 ghost use Rattle.type_numbers.specs.Decoding.{type_by};
