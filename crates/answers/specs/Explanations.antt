@@ -5,7 +5,7 @@ use Rattle.std.specs.List.{flat_map}
 use Rattle.pool.specs.Entries.{Entry}
 use Rattle.classfile.specs.Values.{CodeBody, Handler, Member}
 use Rattle.classfile.specs.Methods.{code_of}
-use Rattle.insn.specs.CodeResults.{code_result}
+use Rattle.insn.specs.Decoding.{code_result}
 use Rattle.frames.specs.FrameFact.{FrameFact}
 use Rattle.rules.specs.Reasons.{reason_number}
 use Rattle.printing.specs.Frames.{frame_lines, frame_fields}

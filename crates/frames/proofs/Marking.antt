@@ -10,7 +10,7 @@ use Rattle.insn.specs.Instructions.{Instruction}
 use Rattle.insn.specs.Code.{StepsThrough, StepsBy}
 use Rattle.insn.specs.Meanings.{Act, New, act, made_index}
 use Rattle.insn.specs.Offsets.{acts, at_offset, by_made}
-use Rattle.insn.specs.CodeResults.{or_none, instructions_in}
+use Rattle.insn.specs.Decoding.{or_none, instructions_in}
 use Rattle.insn.specs.Views.{view, views}
 use Rattle.insn.proofs.CodeLaws.{SoFar, given_step, code_step, code_whole, shorter, has_bytes}
 use Rattle.insn.proofs.CodeResults.{only_result}

@@ -4,7 +4,7 @@ ghost use Rattle.insn.specs.Code.{SpellsCode, FaultyCode, UnlessMemory};
 ghost use Rattle.insn.specs.Instructions.{Instruction};
 ghost use Rattle.insn.specs.Meanings.{Act, made_index};
 ghost use Rattle.insn.specs.Offsets.{acts};
-ghost use Rattle.insn.specs.CodeResults.{instructions_in};
+ghost use Rattle.insn.specs.Decoding.{instructions_in};
 ghost use Rattle.insn.specs.Views.{views};
 ghost use Rattle.frames.specs.declared.code_starts.StartKind.TheVariants.{Inside};
 ghost use Rattle.frames.specs.DeclaredFrames.{is_new};
@@ -151,7 +151,7 @@ impl<'a> CodeStarts<'a> {
 
 impl<'a> Starts for CodeStarts<'a> {
     ghost use Rattle.insn.specs.Offsets.{acts};
-    ghost use Rattle.insn.specs.CodeResults.{instructions_in};
+    ghost use Rattle.insn.specs.Decoding.{instructions_in};
 
     ghost code = { λ s. acts (instructions_in s.code.now) };
 

@@ -11,7 +11,7 @@ use Rattle.insn.specs.declared.stack.StackOperator.TheVariants.{Pop, Pop2, Dup, 
 use Rattle.insn.specs.Operators.{StackForm, stack_forms, takes_array}
 use Rattle.insn.specs.Kinds.{computed_as}
 use Rattle.insn.specs.Offsets.{IsAmong}
-use Rattle.insn.specs.ByUnits.{computational_rows, KindsAreRows, TakesArray, ArraysAreTaken, units_in, top_units, passed_units, IsFormFor, FormsMoveUnits}
+use Rattle.insn.specs.TableLaws.{computational_rows, KindsAreRows, TakesArray, ArraysAreTaken, units_in, top_units, passed_units, IsFormFor, FormsMoveUnits}
 
 -- ---- kinds
 

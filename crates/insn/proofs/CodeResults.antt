@@ -8,7 +8,7 @@ use Rattle.insn.specs.declared.fault.CodeFault.{CodeFault}
 use Rattle.insn.specs.Instructions.{Instruction, instruction_at}
 use Rattle.insn.specs.Faults.{judged, beside}
 use Rattle.insn.specs.Code.{FaultyInstruction, StepsThrough, HasInstruction}
-use Rattle.insn.specs.CodeResults.{CodeResult, IsCodeResult, behind, result_behind, result_from, code_result}
+use Rattle.insn.specs.Decoding.{CodeResult, IsCodeResult, behind, result_behind, result_from, code_result}
 use Rattle.insn.proofs.CodeLaws.{SoFar, read_spells, refusal_faulty, code_step, code_fault, code_whole, has_bytes, shorter, one_code, code_or_fault, one_fault}
 
 -- instructions in front of a reading

@@ -13,8 +13,8 @@ use Rattle.insn.specs.declared.instruction.Insn.{Insn}
 use Rattle.insn.specs.Instructions.{Instruction}
 use Rattle.insn.specs.Views.{view}
 use Rattle.insn.specs.Code.{SpellsInstruction, SpellsCode, FaultyCode}
-use Rattle.insn.specs.Sizes.{size, code_size, placed}
-use Rattle.insn.specs.Spellings.{instruction_bytes}
+use Rattle.insn.specs.InstructionSizes.{size, code_size, placed}
+use Rattle.insn.specs.WrittenInstructions.{instruction_bytes}
 use Rattle.insn.specs.Encoding.{instructions, SpellsList, IsCode, IsTooLarge, IsUnspelled, HasNone, AppendsInstruction, Encodes}
 use Rattle.insn.proofs.CodeLaws.{code_on, code_or_fault, one_code}
 use Rattle.insn.proofs.OperandLaws.{instruction_known, measured}

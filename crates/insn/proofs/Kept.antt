@@ -10,7 +10,7 @@ use Rattle.layout.specs.Place.{Place, Took}
 use Rattle.layout.specs.Format.{Spells, reads}
 use Rattle.insn.specs.Faults.{judged}
 use Rattle.insn.specs.Instructions.{Operands, table_switch, lookup_switch, padding_at, table_length, keys, rising, table_switch_at, lookup_switch_at}
-use Rattle.insn.specs.Switches.{padding_of, fours, number_of, behind, table_switch_of, lookup_switch_of}
+use Rattle.insn.specs.SwitchParts.{padding_of, fours, number_of, behind, table_switch_of, lookup_switch_of}
 use Rattle.insn.proofs.CodeLaws.{read_spells}
 use Rattle.insn.proofs.Spelled.{outcome}
 use Rattle.insn.proofs.Switches.{halves, offsets_known, pairs_known}

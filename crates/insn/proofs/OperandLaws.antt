@@ -18,8 +18,8 @@ use Rattle.insn.specs.Opcodes.{opcodes, opcode_of, form, number as opcode_number
 use Rattle.insn.specs.Instructions.{Instruction, Operands, Outcome, nothing, byte, short, constant, index, local, increment, branch, wide_branch, invoke_interface, invoke_dynamic, new_array, multi_new_array, table_switch, lookup_switch, wide_local, wide_increment, widened, widened_opcode, wide_at, invoke_interface_at, invoke_dynamic_at, operands_at, of_opcode, behind_opcode, instruction_at}
 use Rattle.insn.specs.Code.{SpellsInstruction}
 use Rattle.insn.specs.Encoding.{Appends, AppendsInstruction}
-use Rattle.insn.specs.Sizes.{operands_size, size}
-use Rattle.insn.specs.Spellings.{form_of, takes_local, takes_increment, agrees, AreInRange, IsFine, switch_head, operands_bytes, instruction_bytes}
+use Rattle.insn.specs.InstructionSizes.{operands_size, size}
+use Rattle.insn.specs.WrittenInstructions.{form_of, takes_local, takes_increment, agrees, AreInRange, IsFine, switch_head, operands_bytes, instruction_bytes}
 use Rattle.insn.proofs.Numbers.{by_number, has_number}
 use Rattle.insn.proofs.Spelled.{outcome, last, Known, signed, number_parts, number_first, number_last, number_known, increment_known, multi_new_array_known, invoke_interface_known, invoke_dynamic_known, wide_known}
 use Rattle.insn.proofs.Switches.{table_switch_known, lookup_switch_known, table_switch_written, lookup_switch_written}

@@ -15,7 +15,7 @@ use Rattle.insn.specs.declared.table.Form.TheVariants as forms
 use Rattle.insn.specs.declared.opcode.Opcode.{Opcode}
 use Rattle.insn.specs.Opcodes.{opcode_of, form, number as opcode_number}
 use Rattle.insn.specs.Instructions.{Operands, Outcome, increment, invoke_interface, invoke_dynamic, multi_new_array, wide_local, wide_increment, widened, widened_opcode, wide_at, invoke_interface_at, invoke_dynamic_at}
-use Rattle.insn.specs.Spellings.{form_of, takes_local, takes_increment, agrees, operands_bytes}
+use Rattle.insn.specs.WrittenInstructions.{form_of, takes_local, takes_increment, agrees, operands_bytes}
 use Rattle.insn.proofs.Numbers.{has_number}
 
 abbrev pub outcome : Operands → Outcome

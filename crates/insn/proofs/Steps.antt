@@ -12,7 +12,7 @@ use Rattle.insn.specs.declared.fault.CodeFault.TheVariants.{CutInstruction}
 use Rattle.insn.specs.declared.opcode.Opcode.{Opcode}
 use Rattle.insn.specs.Instructions.{Instruction, Operands, Outcome, of_opcode}
 use Rattle.insn.specs.Faults.{judged, beside}
-use Rattle.insn.specs.private.Steps.{Decodes, or_cut}
+use Rattle.insn.specs.private.PartReading.{Decodes, or_cut}
 
 behind : {V W : Type 0} (at : ℕ) (f : Format W) (next : W → Format (Result V CodeFault)) (old mid : Place) (w : W)
     → reads f old.at old.rest ≡ Ok (w, mid)

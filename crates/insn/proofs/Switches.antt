@@ -12,7 +12,7 @@ use Rattle.layout.specs.FormatLaws.{AreBytes-parts, number_4}
 use Rattle.insn.specs.declared.fault.CodeFault.TheVariants.{BadSwitch}
 use Rattle.insn.specs.declared.table.Form.TheVariants as forms
 use Rattle.insn.specs.Instructions.{Operands, Outcome, table_switch, lookup_switch, padding_at, table_length, keys, rising, table_behind, pairs_behind, table_switch_at, lookup_switch_at}
-use Rattle.insn.specs.Spellings.{fills, pairs_up, agrees, AreInRange, switch_head, operands_bytes}
+use Rattle.insn.specs.WrittenInstructions.{fills, pairs_up, agrees, AreInRange, switch_head, operands_bytes}
 use Rattle.insn.proofs.Spelled.{outcome, last, Known, signed, number_parts, number_first}
 
 both : (a b : Bool) → a ≡ true → b ≡ true → (a && b) ≡ true

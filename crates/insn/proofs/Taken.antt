@@ -27,7 +27,7 @@ use Rattle.insn.specs.Meanings as means
 use Rattle.insn.specs.Views.{act_view}
 use Rattle.insn.specs.private.Table.{TableRow, table_opcode, act_where, IsRowOf}
 use Rattle.insn.proofs.Spelled.{outcome}
-use Rattle.insn.specs.private.Parts.{IsActAlways, IsActBy}
+use Rattle.insn.specs.private.OperandParts.{IsActAlways, IsActBy}
 use Rattle.insn.specs.Unconstrained.{form_length, unconstrained_length, HasUnconstrained}
 use Rattle.insn.specs.private.Taken.{SkipsUnconstrained, TakesNew, TakesAct, HasAct}
 

@@ -6,8 +6,8 @@ use Rattle.layout.specs.declared.fault.WriteFault.TheVariants.{OutOfMemory, Does
 use Rattle.layout.specs.declared.limits.TheConstants.{MAX_CODE_BYTES}
 use Rattle.insn.specs.Instructions.{Instruction}
 use Rattle.insn.specs.Code.{SpellsInstruction, SpellsCode}
-use Rattle.insn.specs.Sizes.{code_size}
-use Rattle.insn.specs.Spellings.{instruction_bytes}
+use Rattle.insn.specs.InstructionSizes.{code_size}
+use Rattle.insn.specs.WrittenInstructions.{instruction_bytes}
 
 -- the instructions without the offsets where they begin
 abbrev pub instructions : List (ℕ × Instruction) → List Instruction

@@ -1,4 +1,5 @@
--- The answer of a call that reads instructions. Where the bytes end before an instruction does, it is cut (32).
+-- The numbers of the faults of code (31 to 35, and 1), and the answer of a call that reads instructions. Where the bytes
+-- end before an instruction does, it is cut (32).
 use Rattle.std.specs.Prelude.{ℕ, Result, Ok, Err}
 use Rattle.layout.specs.Place.{Place}
 use Rattle.layout.specs.declared.fault.ReadFault.{ReadFault}

@@ -16,7 +16,7 @@ is_wide Double = true
 abbrev pub kind_units : Kind → ℕ
 kind_units kind = if is_wide kind then 2 else 1
 
--- the kind of number as which a primitive type is computed with (Table 2.11.1-B)
+-- the computational kind of a primitive type (Table 2.11.1-B)
 abbrev pub computed_as : Primitive → Kind
 computed_as primitives.Float = Float
 computed_as primitives.Long = Long

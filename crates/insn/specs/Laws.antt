@@ -8,7 +8,7 @@ use Rattle.layout.specs.declared.limits.TheConstants.{MAX_CODE_BYTES}
 use Rattle.insn.specs.declared.fault.CodeFault.{CodeFault}
 use Rattle.insn.specs.Instructions.{Instruction}
 use Rattle.insn.specs.Code.{SpellsCode, FaultyCode}
-use Rattle.insn.specs.Sizes.{code_size, placed}
+use Rattle.insn.specs.InstructionSizes.{code_size, placed}
 use Rattle.insn.specs.Encoding.{instructions, SpellsList, IsCode, Encodes}
 
 -- a list of instructions has one spelling at most

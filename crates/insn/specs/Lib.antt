@@ -1,7 +1,7 @@
 pub mod Branching
-pub mod ByUnits
+pub mod TableLaws
 pub mod Code
-pub mod CodeResults
+pub mod Decoding
 pub mod Encoding
 pub mod Faults
 pub mod Instructions
@@ -12,9 +12,9 @@ pub mod Offsets
 pub mod Opcodes
 pub mod OperandStacks
 pub mod Operators
-pub mod Sizes
-pub mod Spellings
-pub mod Switches
+pub mod InstructionSizes
+pub mod WrittenInstructions
+pub mod SwitchParts
 pub mod Unconstrained
 pub mod Views
 pub mod private

@@ -1,4 +1,4 @@
--- The meaning of an instruction, without its form (JVMS 6.5). Of numbers an act has the kind and not the value.
+-- The meaning of an instruction, without its form (JVMS 6.5). For a number, an act has its kind and not its value.
 -- Branches and switches have offsets from the instruction's own start.
 use Rattle.std.specs.Prelude.{ℕ, ℤ, pos, Option, Some, None, List, [], ◌∷◌, nat_eq, map, if◌then◌else◌}
 use Rattle.std.specs.Int.{cast_signed, w32}

@@ -16,7 +16,7 @@ use Rattle.insn.specs.declared.instruction.Operands.TheVariants as operands
 use Rattle.insn.specs.declared.instruction.Insn as insns
 use Rattle.insn.specs.Instructions as is
 use Rattle.insn.specs.Instructions.{Instruction}
-use Rattle.insn.specs.Switches.{table_switch_of, lookup_switch_of}
+use Rattle.insn.specs.SwitchParts.{table_switch_of, lookup_switch_of}
 
 abbrev pub operands_view : Operands → is.Operands
 operands_view operands.Nothing = is.nothing

@@ -1,5 +1,5 @@
 -- Words of the code's own steps, which its private contracts use: nothing that a reader must believe rests on them.
-pub mod Parts
-pub mod Steps
+pub mod OperandParts
+pub mod PartReading
 pub mod Table
 pub mod Taken

@@ -7,7 +7,7 @@ use crate::switch::Targets;
 use names::Primitive;
 
 /// The meaning of an instruction, without its form: `iload_0`, `iload 0` and `wide iload 0` are one
-/// act. Of numbers an act has the kind and not the value. Indices lead into the constant pool;
+/// act. For a number, an act has its kind and not its value. Indices lead into the constant pool;
 /// locals are numbers of local variables; offsets count bytes from the instruction's own start.
 #[derive(Clone, Copy)]
 pub enum Act<'a> {
@@ -37,7 +37,7 @@ pub enum Act<'a> {
     Stack(StackOperator),
     /// An `int` is compared with 0: `ifeq` to `ifle`.
     IfInt { offset: i32 },
-    /// Two of `int` are compared: `if_icmpeq` to `if_icmple`.
+    /// Two `int`s are compared: `if_icmpeq` to `if_icmple`.
     IfInts { offset: i32 },
     /// Two references are compared: `if_acmpeq` and `if_acmpne`.
     IfReferences { offset: i32 },

@@ -32,7 +32,7 @@ pub fn decode_code<'a>(alloc: Global, code: &'a [u8]) -> Result<Vec<(u16, Insn<'
     requires { length code.now ≤ MAX_CODE_BYTES }
     // The instructions that are returned are those that the code spells.
     ensures found { IfOk result (λ v. SpellsCode 0 code.now (views v.items)) }
-    // The offsets rise, so that one is found by halving.
+    // The offsets rise, so that one is found by binary search.
     ensures starts { IfOk result (λ v. StartsRise 0 (views v.items)) }
     // The instructions that the code spells are returned, unless memory runs out.
     ensures only { (xs : List (ℕ × Instruction)) → SpellsCode 0 code.now xs → IfErr result (λ e. e ≡ OutOfMemory) }

@@ -4,7 +4,7 @@ ghost use Rattle.layout.specs.Format.{AreBytes};
 ghost use Rattle.layout.specs.declared.fault.WriteFault.TheVariants.{OutOfMemory};
 ghost use Rattle.layout.specs.declared.limits.TheConstants.{MAX_CODE_BYTES};
 ghost use Rattle.insn.specs.Encoding.{IsCode, Encodes};
-ghost use Rattle.insn.specs.Sizes.{operands_size, size, code_size};
+ghost use Rattle.insn.specs.InstructionSizes.{operands_size, size, code_size};
 ghost use Rattle.insn.specs.Views.{operands_view, view};
 
 use crate::instruction::{Insn, Operands};
@@ -13,7 +13,7 @@ use crate::switch::{LookupSwitch, TableSwitch};
 use layout::{MAX_CODE_BYTES, WriteFault};
 use std::alloc::Global;
 
-/// How many bytes of the room are left after a switch: none where it does not hold them.
+/// The bytes of the room that are left after a switch; none where it does not fit.
 fn behind_switch(room: usize, numbers: usize, padding: &[u8], table: &[u8]) -> Option<usize>
     requires { numbers ≤ 12 }
     ensures { SomeIff result (numbers + (length padding.now + length table.now) ≤ room)
@@ -24,7 +24,7 @@ fn behind_switch(room: usize, numbers: usize, padding: &[u8], table: &[u8]) -> O
         .checked_sub(table.len())
 }
 
-/// How many bytes of the room are left after the operands: none where it does not hold them.
+/// The bytes of the room that are left after the operands; none where they do not fit.
 fn behind_operands(room: usize, operands: Operands<'_>) -> Option<usize>
     ensures { SomeIff result (operands_size (operands_view operands.entry) ≤ room)
         (room - operands_size (operands_view operands.entry)) }
@@ -54,7 +54,7 @@ fn behind_operands(room: usize, operands: Operands<'_>) -> Option<usize>
     }
 }
 
-/// How many bytes of the room are left after the instruction: none where it does not hold it.
+/// The bytes of the room that are left after the instruction; none where it does not fit.
 fn behind_insn(room: usize, insn: &Insn<'_>) -> Option<usize>
     ensures { SomeIff result (size (view insn.now) ≤ room) (room - size (view insn.now)) }
 {
@@ -77,7 +77,7 @@ fn is_too_large(list: &[Insn<'_>]) -> bool
 
 /// The code that is these instructions, one after the other.
 ///
-/// 17 where they have more than 65,535 bytes, each as its operands are, and otherwise 18 where no
+/// 17 where they have more than 65,535 bytes, each counted by its operands, spelled or not, and otherwise 18 where no
 /// bytes spell them: an opcode has operands of another form, `wide` an opcode that it does not
 /// modify, or a switch a padding, bounds or a table that do not agree (JVMS 6.5); or 1 where memory
 /// runs out.

@@ -18,8 +18,8 @@ fn start_at(list: &[(u16, Insn<'_>)], number: usize) -> Option<u16>
 }
 
 /// The meaning of the instruction at an offset, and where the next one begins, if one begins after it: `None` where
-/// none begins at that offset. Takes no memory. The offsets of [`decode_code`](crate::decode_code)'s list rise, so the
-/// list is halved.
+/// none begins at that offset. Takes no memory. The offsets of [`decode_code`](crate::decode_code)'s list rise, so it
+/// is found by binary search.
 pub fn found_at<'a>(list: &[(u16, Insn<'a>)], at: u16) -> Option<(Act<'a>, Option<u16>)>
     requires { StartsRise 0 (views list.now) }
     ensures { MatchOption result (at_offset (acts (views list.now)) at ≡ None)

@@ -108,7 +108,8 @@ pub fn is_start(list: &[(u16, Insn<'_>)], at: u16) -> bool
 }
 
 /// Whether an instruction of the list, whose offsets rise, begins at this offset. Takes no memory. The
-/// offsets of [`decode_code`](crate::decode_code)'s list rise, so the list is halved.
+/// offsets of [`decode_code`](crate::decode_code)'s list rise, so it is found by binary
+/// search.
 pub fn is_rising_start(list: &[(u16, Insn<'_>)], at: u16) -> bool
     requires { StartsRise 0 (views list.now) }
     ensures { result ≡ has_offset (views list.now) at }

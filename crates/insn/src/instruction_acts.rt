@@ -2,7 +2,7 @@
 ghost use Rattle.std.specs.Prelude.{◌≡◌};
 ghost use Rattle.insn.specs.Code.{modified};
 ghost use Rattle.insn.specs.Meanings.{act, made_index, element_of, index_of, local_of, offset_of};
-ghost use Rattle.insn.specs.private.Parts.{AreParts, IsActAlways, IsActBy, IsActOf, index_and_byte};
+ghost use Rattle.insn.specs.private.OperandParts.{AreParts, IsActAlways, IsActBy, IsActOf, index_and_byte};
 ghost use Rattle.insn.specs.Views.{view, operands_view, act_view};
 
 use crate::acts::{Act, Meaning};
@@ -188,7 +188,7 @@ struct Parts<'a> {
 
 impl<'a> Parts<'a> {
     ghost use Rattle.insn.specs.Instructions as instructions;
-    ghost use Rattle.insn.specs.private.Parts.{AreParts};
+    ghost use Rattle.insn.specs.private.OperandParts.{AreParts};
 
     /// The parts of an instruction without operands.
     fn none() -> Parts<'a>

@@ -2,7 +2,7 @@
 ghost use Rattle.std.specs.Prelude.{◌≡◌, ◌≤◌, ◌-◌, ◌↔◌, Some, IfSome, IsTrue, length, take};
 ghost use Rattle.insn.specs.Code.{ReadsInstruction};
 ghost use Rattle.insn.specs.Instructions.{operands_at, behind_opcode, instruction_at, wide_at, widened, widened_opcode, invoke_interface_at, invoke_dynamic_at, table_switch_at, table_behind, lookup_switch_at, pairs_behind, keys, rising, follows};
-ghost use Rattle.insn.specs.private.Steps.{Decodes, or_cut};
+ghost use Rattle.insn.specs.private.PartReading.{Decodes, or_cut};
 ghost use Rattle.insn.specs.private.Taken.{SkipsUnconstrained, TakesAlone, TakesNew, TakesAct, HasAct};
 ghost use Rattle.insn.specs.Unconstrained.{HasUnconstrained};
 ghost use Rattle.insn.specs.Views.{operands_view, table_switch_view, lookup_switch_view, view};

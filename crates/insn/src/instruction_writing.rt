@@ -5,7 +5,7 @@ ghost use Rattle.byteorder.specs.Endian.{big_bytes};
 ghost use Rattle.insn.specs.Encoding.{Appends, HasNone, AppendsInstruction};
 ghost use Rattle.insn.specs.Instructions.{padding_at, table_length};
 ghost use Rattle.insn.specs.Opcodes.{form, number};
-ghost use Rattle.insn.specs.Spellings.{form_of, agrees, fills, pairs_up, AreInRange, takes_local, takes_increment, switch_head, operands_bytes, IsFine};
+ghost use Rattle.insn.specs.WrittenInstructions.{form_of, agrees, fills, pairs_up, AreInRange, takes_local, takes_increment, switch_head, operands_bytes, IsFine};
 ghost use Rattle.insn.specs.Views.{operands_view, table_switch_view, lookup_switch_view, view};
 
 use crate::instruction::{Insn, Operands};

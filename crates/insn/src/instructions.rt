@@ -62,7 +62,7 @@ impl<'a> Instructions<'a> {
         self.cursor.at()
     }
 
-    /// Moves past the instruction in front and returns its act, as [`act`](crate::act) does. One has to stand there.
+    /// Moves past the instruction in front and returns its act, as [`act`](crate::act) does. An instruction has to begin there.
     #[inline(always)]
     pub fn take_act(&mut self) -> Act<'a>
         requires { HasInstruction self.old }
@@ -113,7 +113,7 @@ impl<'a> Instructions<'a> {
         self.start_with_operands()
     }
 
-    /// Goes on as `next` does, which takes an instruction without operands itself.
+    /// Goes on as `next` does where no instruction without operands is in front.
     #[inline(never)]
     fn next_with_operands(&mut self) -> Option<Result<(usize, Insn<'a>), CodeFault>>
         ensures { StepsThrough located self.old result self.new }

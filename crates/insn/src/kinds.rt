@@ -31,7 +31,7 @@ impl Kind {
     }
 }
 
-/// The kind of number as which a primitive type is computed with (JVMS Table 2.11.1-B).
+/// The computational kind of a primitive type (JVMS Table 2.11.1-B).
 pub fn computed_as(primitive: Primitive) -> Kind
     ensures { result ≡ computed_as primitive }
 {

@@ -4,10 +4,10 @@ ghost use Rattle.insn.specs.declared.fault.CodeFault.{CodeFault};
 ghost use Rattle.insn.specs.declared.opcode.Opcode.{Opcode};
 ghost use Rattle.insn.specs.Instructions.{Instruction};
 ghost use Rattle.insn.specs.Code.{SpellsCode, FaultyCode};
-ghost use Rattle.insn.specs.ByUnits.{KindsAreRows, ArraysAreTaken, FormsMoveUnits};
+ghost use Rattle.insn.specs.TableLaws.{KindsAreRows, ArraysAreTaken, FormsMoveUnits};
 ghost use Rattle.insn.specs.Laws.{OneSpelling, StartsAreSums, SizesAdd, WrittenIsRead, ReadIsWritten};
 ghost use Rattle.insn.specs.Opcodes.{number, opcode_of};
-ghost use Rattle.insn.specs.CodeResults.{ResultsAreSpellings};
+ghost use Rattle.insn.specs.Decoding.{ResultsAreSpellings};
 
 /// Bytes are the code of one list of instructions at most, and then no instruction in them is at
 /// fault; other bytes have one fault at most.
@@ -19,7 +19,7 @@ pub fn code_is_one_list()
     ensures fault { (bytes : List ℕ) (e f : CodeFault) → FaultyCode bytes e → FaultyCode bytes f → e ≡ f }
 {}
 
-/// The words that compute say of code what its spelling says: its instructions, or its fault.
+/// The function `code_result` and the relations `SpellsCode` and `FaultyCode` say the same of all code.
 pub fn results_are_spellings()
     ensures { ResultsAreSpellings }
 {}

@@ -10,8 +10,8 @@
 //! - `branching` finds the offsets to which an instruction branches
 //! - `decoding` reads all of a method's code into a list
 //! - `encoding` writes a list of instructions as code
-//! - `fault` has the reasons for which bytes are no code
-//! - `finding` finds the instruction at an offset of a list
+//! - `fault` has the faults for which bytes are no code
+//! - `finding` finds the instruction at an offset of a list, by binary search
 //! - `instruction` has `Insn`, an opcode with its operands
 //! - `instruction_acts` makes the act of an instruction from its meaning and its operands
 //! - `instruction_reading` reads one instruction
@@ -23,7 +23,9 @@
 //! - `operators` has the instructions that compute numbers from numbers, and the arrays that element instructions take
 //! - `stack` has the instructions that move items of the stack
 //! - `switch` reads the parts of a switch
-//! - `table` is the instruction set, a row for each opcode
+//! - `table` has the tables: a row for each opcode, each numeric operator and each operator of the stack; and `Form`
+//!
+//! `docs/DEFINITIONS.md` says in a sentence what each file of `specs/` holds.
 #![tactic(auto)]
 
 mod acts;

@@ -1,7 +1,7 @@
 //! The parts of a switch, and where it goes. No call takes memory.
 ghost use Rattle.std.specs.Prelude.{◌≡◌, [], ◌∷◌, MatchOption};
 ghost use Rattle.insn.specs.Instructions.{pairs};
-ghost use Rattle.insn.specs.Switches.{padding_of, number_of, behind, default_of, low_of, high_of, table_of, count_of, pairs_of};
+ghost use Rattle.insn.specs.SwitchParts.{padding_of, number_of, behind, default_of, low_of, high_of, table_of, count_of, pairs_of};
 ghost use Rattle.insn.specs.Views.{targets_view, offsets_left, pairs_left};
 
 use byteorder::{BigEndian, ByteOrder};

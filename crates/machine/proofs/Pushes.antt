@@ -16,7 +16,7 @@ use Rattle.insn.specs.declared.stack.StackOperator.{StackOperator}
 use Rattle.insn.specs.declared.stack.StackOperator.TheVariants.{Pop, Pop2, Dup, DupX1, DupX2, Dup2, Dup2X1, Dup2X2, Swap}
 use Rattle.insn.specs.Operators.{numeric_row, StackForm, stack_forms}
 use Rattle.insn.specs.OperandStacks.{beneath, with_item, chosen, rearranged}
-use Rattle.insn.specs.ByUnits.{units_in, moved_by, counted, IsFormFor}
+use Rattle.insn.specs.TableLaws.{units_in, moved_by, counted, IsFormFor}
 use Rattle.insn.specs.Meanings as acts
 use Rattle.insn.specs.Meanings.{Act}
 use Rattle.insn.specs.Offsets.{IsAmong}

@@ -13,7 +13,7 @@ use Rattle.insn.specs.declared.kinds.Kind.{Kind}
 use Rattle.insn.specs.declared.kinds.Kind.TheVariants as kinds
 use Rattle.insn.specs.declared.stack.StackOperator.{StackOperator}
 use Rattle.insn.specs.Operators.{numeric_row}
-use Rattle.insn.specs.ByUnits.{top_units, passed_units, moved_by}
+use Rattle.insn.specs.TableLaws.{top_units, passed_units, moved_by}
 use Rattle.insn.specs.Meanings as acts
 use Rattle.insn.specs.Meanings.{Act}
 use Rattle.insn.specs.Offsets.{at_offset}

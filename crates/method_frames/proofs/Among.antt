@@ -6,7 +6,7 @@ use Rattle.frames.specs.FrameAssignable.{width_of}
 use Rattle.frames.specs.Slots.{is_wide, units_of}
 use Rattle.type_numbers.specs.Numbers.{Numbering}
 use Rattle.type_numbers.specs.Decoding.{type_by, types_by}
-use Rattle.method_frames.specs.Objects.{is_object, replaced, holds}
+use Rattle.method_frames.specs.Objects.{is_uninitialized, replaced, holds}
 use Rattle.method_frames.specs.private.Counted.{IsCounted}
 use Rattle.method_frames.proofs.ObjectNumbers.{object_narrow, narrow_width}
 
@@ -48,7 +48,7 @@ holds_reverse object (n ∷ ns) =
 
 -- ---- units
 
-module _ (object by : ℕ) (o : is_object object ≡ true) (narrow : (s : Numbering) → is_wide (type_by s by) ≡ false) (s : Numbering) where
+module _ (object by : ℕ) (o : is_uninitialized object ≡ true) (narrow : (s : Numbering) → is_wide (type_by s by) ≡ false) (s : Numbering) where
   width_same : (n : ℕ) → width_of (type_by s (replaced object by n)) ≡ width_of (type_by s n)
   width_same n = which (nat_eq n object) refl
     where
@@ -62,7 +62,7 @@ module _ (object by : ℕ) (o : is_object object ≡ true) (narrow : (s : Number
   units_replaced [] = refl
   units_replaced (n ∷ ns) = ap₂ (λ a b. a + b) (width_same n) (units_replaced ns)
 
-pub counted_replaced : (object by : ℕ) → is_object object ≡ true → ((s : Numbering) → is_wide (type_by s by) ≡ false) → (row : List ℕ) (w : ℕ) → IsCounted row w → IsCounted (map (replaced object by) row) w
+pub counted_replaced : (object by : ℕ) → is_uninitialized object ≡ true → ((s : Numbering) → is_wide (type_by s by) ≡ false) → (row : List ℕ) (w : ℕ) → IsCounted row w → IsCounted (map (replaced object by) row) w
 counted_replaced object by o narrow row w c = record {
   units = λ s. units_replaced object by o narrow s row ∙ c.units s ∙ ap (λ n. n + w) (sym (length-map row (replaced object by)));
 }

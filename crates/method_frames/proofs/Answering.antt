@@ -15,8 +15,8 @@ use Rattle.frames.proofs.Types.{type_itself}
 use Rattle.type_numbers.specs.Numbers.{Numbering}
 use Rattle.type_numbers.specs.Decoding.{type_by, types_by}
 use Rattle.blocks.specs.Judgements.{IsJudgement}
-use Rattle.method_frames.specs.private.RowFacts.{is_yes, fits}
-use Rattle.method_frames.specs.private.Lacking.{row_answers}
+use Rattle.method_frames.specs.private.KnownRows.{is_yes, fits}
+use Rattle.method_frames.specs.private.TypeRows.{row_answers}
 
 yes_of : (r : Outcome) → is_yes r ≡ true → r ≡ yes
 yes_of yes e = refl

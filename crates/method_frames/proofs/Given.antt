@@ -4,7 +4,7 @@ use Rattle.std.proofs.lemmas.Bool.{cases_eq}
 use Rattle.std.proofs.lemmas.List.{length-set, length-replicate, get_or-set_same, get_or-set_other, get_or-replicate}
 use Rattle.frames.specs.VerificationType.{top}
 use Rattle.type_numbers.specs.Numbers.{Numbering, IsGiven}
-use Rattle.method_frames.specs.private.RowFacts.{AreGiven}
+use Rattle.method_frames.specs.private.KnownRows.{AreGiven}
 
 pub top_given : (s : Numbering) → IsGiven s 0
 top_given s = (top, record { number = refl; noted = tt })

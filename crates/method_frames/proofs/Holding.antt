@@ -5,8 +5,8 @@ use Rattle.std.proofs.lemmas.Bool.Decides.{nat_tests}
 use Rattle.std.proofs.lemmas.List.{length-set, length-append, length-replicate, get_or-set_same, get_or-set_other, length-map, get_or_append_left, get_or_push, get_or-replicate, get_or-map}
 use Rattle.type_numbers.specs.Numbers.{Numbering, IsGiven}
 use Rattle.blocks.specs.Rows.{Rows, declared_row}
-use Rattle.method_frames.specs.Objects.{is_object, replaced}
-use Rattle.method_frames.specs.private.RowFacts.{AreKnown}
+use Rattle.method_frames.specs.Objects.{is_uninitialized, replaced}
+use Rattle.method_frames.specs.private.KnownRows.{AreKnown}
 use Rattle.method_frames.specs.private.Holders.{IsListed, AreListed, AreHeld, KeepsListed, Replaces}
 use Rattle.method_frames.specs.declared.holders.Holders.{Holders}
 use Rattle.method_frames.proofs.Knowing.{at_more, tops_known, taken_known, declared_known, put_known}
@@ -23,25 +23,25 @@ module _ (x y : Holders) (kept : KeepsListed x y) where
   }
 
 -- one place changes, and what it holds is listed
-pub listed_set : (x : Holders) (row : List ℕ) (place n : ℕ) → AreListed x row → (is_object n ≡ true → IsListed x n place) → AreListed x (set row place n)
+pub listed_set : (x : Holders) (row : List ℕ) (place n : ℕ) → AreListed x row → (is_uninitialized n ≡ true → IsListed x n place) → AreListed x (set row place n)
 listed_set x row place n all h k lt o =
     let long = length-set row place n in
     elim (cases_eq k place) [
       | inl e ↦ (let same = ap (λ j. get_or (set row place n) j 0) e ∙ get_or-set_same row place n 0 (omega (arith, long, lt, e)) in
-          subst (λ m. IsListed x m k) (sym same) (subst (λ j. IsListed x n j) (sym e) (h (sym (ap is_object same) ∙ o))))
-      | inr ne ↦ (let same = get_or-set_other row place k n 0 ne in subst (λ m. IsListed x m k) (sym same) (all k (omega (arith, long, lt)) (sym (ap is_object same) ∙ o)))
+          subst (λ m. IsListed x m k) (sym same) (subst (λ j. IsListed x n j) (sym e) (h (sym (ap is_uninitialized same) ∙ o))))
+      | inr ne ↦ (let same = get_or-set_other row place k n 0 ne in subst (λ m. IsListed x m k) (sym same) (all k (omega (arith, long, lt)) (sym (ap is_uninitialized same) ∙ o)))
     ]
 
 pub tops_listed : (x : Holders) (count : ℕ) → AreListed x (replicate count 0)
 tops_listed x count place lt o =
     let zero_number : ℕ = 0 in
     let long = length-replicate count zero_number in
-    absurd (true≢false (sym o ∙ ap is_object (get_or-replicate count place 0 0 (omega (arith, long, lt)))))
+    absurd (true≢false (sym o ∙ ap is_uninitialized (get_or-replicate count place 0 0 (omega (arith, long, lt)))))
 
 pub tops_held : (s : Numbering) (count : ℕ) (x : Holders) → AreHeld s (record { running = replicate count 0; declared = []; kept = replicate count 0; known = [] }) x
 tops_held s count x = record { known = tops_known s count; running = tops_listed x count; declared = λ row lt. absurd (omega (arith, lt)) }
 
-pub put_held : {E : Type 0} (s : Numbering) (old new : Rows) (place n : ℕ) (r : Result Unit E) (x y : Holders) → AreHeld s old x → KeepsListed x y → (is_object n ≡ true → IsListed y n place) → IsGiven s n
+pub put_held : {E : Type 0} (s : Numbering) (old new : Rows) (place n : ℕ) (r : Result Unit E) (x y : Holders) → AreHeld s old x → KeepsListed x y → (is_uninitialized n ≡ true → IsListed y n place) → IsGiven s n
     → OnOk r (new ≡ record old { running = set old.running place n }) → OnErr r (new ≡ old) → AreHeld s new y
 put_held s old new place n (Ok u) x y h kept listed given ok err =
     let k = held_kept x y kept s old h in
@@ -74,12 +74,12 @@ module _ (s : Numbering) (object by : ℕ) (old new : Rows) (x : Holders) (r : R
   given_each i (inl e) a b = subst (IsGiven s) (sym e) a
   given_each i (inr e) a b = subst (IsGiven s) (sym e.1) b
 
-  listed_each : (i : ℕ) → (get_or new.running i 0 ≡ get_or old.running i 0) ⊎ ((get_or old.running i 0 ≡ object) × (get_or new.running i 0 ≡ by)) → is_object by ≡ false
-      → (is_object (get_or old.running i 0) ≡ true → IsListed x (get_or old.running i 0) i) → is_object (get_or new.running i 0) ≡ true → IsListed x (get_or new.running i 0) i
-  listed_each i (inl e) n a o = subst (λ m. IsListed x m i) (sym e) (a (sym (ap is_object e) ∙ o))
-  listed_each i (inr e) n a o = absurd (true≢false (sym o ∙ ap is_object e.1 ∙ n))
+  listed_each : (i : ℕ) → (get_or new.running i 0 ≡ get_or old.running i 0) ⊎ ((get_or old.running i 0 ≡ object) × (get_or new.running i 0 ≡ by)) → is_uninitialized by ≡ false
+      → (is_uninitialized (get_or old.running i 0) ≡ true → IsListed x (get_or old.running i 0) i) → is_uninitialized (get_or new.running i 0) ≡ true → IsListed x (get_or new.running i 0) i
+  listed_each i (inl e) n a o = subst (λ m. IsListed x m i) (sym e) (a (sym (ap is_uninitialized e) ∙ o))
+  listed_each i (inr e) n a o = absurd (true≢false (sym o ∙ ap is_uninitialized e.1 ∙ n))
 
-  pub replaced_held : is_object by ≡ false → IsGiven s by → AreHeld s old x → AreHeld s new x
+  pub replaced_held : is_uninitialized by ≡ false → IsGiven s by → AreHeld s old x → AreHeld s new x
   replaced_held none given h =
       let k = h.known in
       let size = r.size in
@@ -104,22 +104,22 @@ noted_held s old new x known running declared h = record {
 }
 
 -- an item more on top
-pub listed_push : (x : Holders) (row : List ℕ) (n : ℕ) → AreListed x row → (is_object n ≡ true → IsListed x n (length row)) → AreListed x (row ++ n ∷ [])
+pub listed_push : (x : Holders) (row : List ℕ) (n : ℕ) → AreListed x row → (is_uninitialized n ≡ true → IsListed x n (length row)) → AreListed x (row ++ n ∷ [])
 listed_push x row n all h k lt o =
     let long = length-append row (n ∷ []) in
     elim (cases_lt k (length row)) [
-      | inl less ↦ (let same = get_or_append_left row (n ∷ []) 0 k less in subst (λ m. IsListed x m k) (sym same) (all k less (sym (ap is_object same) ∙ o)))
+      | inl less ↦ (let same = get_or_append_left row (n ∷ []) 0 k less in subst (λ m. IsListed x m k) (sym same) (all k less (sym (ap is_uninitialized same) ∙ o)))
       | inr more ↦ (let here : k ≡ length row = omega (arith, lt, long, more) in let same = get_or_push row n 0 k (sym here) in
-          subst (λ m. IsListed x m k) (sym same) (subst (λ j. IsListed x n j) (sym here) (h (sym (ap is_object same) ∙ o))))
+          subst (λ m. IsListed x m k) (sym same) (subst (λ j. IsListed x n j) (sym here) (h (sym (ap is_uninitialized same) ∙ o))))
     ]
 
 pub listed_pop : (x : Holders) (row : List ℕ) (n : ℕ) → AreListed x (row ++ n ∷ []) → AreListed x row
 listed_pop x row n all k lt o =
     let same = get_or_append_left row (n ∷ []) 0 k lt in
     let long = length-append row (n ∷ []) in
-    subst (λ m. IsListed x m k) same (all k (omega (arith, lt, long)) (ap is_object same ∙ o))
+    subst (λ m. IsListed x m k) same (all k (omega (arith, lt, long)) (ap is_uninitialized same ∙ o))
 
-pub listed_map : (x : Holders) (row : List ℕ) (object by : ℕ) → is_object by ≡ false → AreListed x row → AreListed x (map (replaced object by) row)
+pub listed_map : (x : Holders) (row : List ℕ) (object by : ℕ) → is_uninitialized by ≡ false → AreListed x row → AreListed x (map (replaced object by) row)
 listed_map x row object by none all k lt o =
     let long = length-map row (replaced object by) in
     let inside : k < length row = omega (arith, lt, long) in
@@ -127,20 +127,20 @@ listed_map x row object by none all k lt o =
     which (nat_eq (get_or row k 0) object) refl here
   where
     which : (b : Bool) → nat_eq (get_or row k 0) object ≡ b → get_or (map (replaced object by) row) k 0 ≡ cond (nat_eq (get_or row k 0) object) by (get_or row k 0) → IsListed x (get_or (map (replaced object by) row) k 0) k
-    which true e h = absurd (true≢false (sym o ∙ ap is_object (h ∙ ap (λ b. cond b by (get_or row k 0)) e) ∙ none))
+    which true e h = absurd (true≢false (sym o ∙ ap is_uninitialized (h ∙ ap (λ b. cond b by (get_or row k 0)) e) ∙ none))
     which false e h =
         let same = h ∙ ap (λ b. cond b by (get_or row k 0)) e in
         let long = length-map row (replaced object by) in
-        subst (λ m. IsListed x m k) (sym same) (all k (omega (arith, lt, long)) (sym (ap is_object same) ∙ o))
+        subst (λ m. IsListed x m k) (sym same) (all k (omega (arith, lt, long)) (sym (ap is_uninitialized same) ∙ o))
 
 -- where no place is listed, no other number takes the place of an object's
-module _ (object by : ℕ) (own : is_object object ≡ true) where
-  none_among : (row : List ℕ) → ((place : ℕ) → place < length row → is_object (get_or row place 0) ≡ true → ⊥) → row ≡ map (replaced object by) row
+module _ (object by : ℕ) (own : is_uninitialized object ≡ true) where
+  none_among : (row : List ℕ) → ((place : ℕ) → place < length row → is_uninitialized (get_or row place 0) ≡ true → ⊥) → row ≡ map (replaced object by) row
   none_among [] none = refl
   none_among (n ∷ ns) none = (λ i. first (nat_eq n object) refl i ∷ none_among ns (λ place lt. none (suc place) (omega (arith, lt))) i)
     where
       first : (b : Bool) → nat_eq n object ≡ b → n ≡ replaced object by n
-      first true e = let same : n ≡ object = grind (arith, nat_tests, e) in absurd (none 0 (omega arith) (ap is_object same ∙ own))
+      first true e = let same : n ≡ object = grind (arith, nat_tests, e) in absurd (none 0 (omega arith) (ap is_uninitialized same ∙ own))
       first false e = sym (ap (λ b. cond b by n) e)
 
   pub none_replaced : (x : Holders) (row : List ℕ) → ((o place : ℕ) → IsListed x o place → ⊥) → AreListed x row → row ≡ map (replaced object by) row

@@ -6,7 +6,7 @@ use Rattle.std.proofs.lemmas.List.{length-set, length-append, get_or_append_left
 use Rattle.blocks.specs.Rows.{Rows, declared_row}
 use Rattle.type_numbers.specs.Numbers.{Numbering, IsGiven}
 use Rattle.method_frames.specs.NumberedRows.{NumberedRows}
-use Rattle.method_frames.specs.private.RowFacts.{AreGiven, AreKnown}
+use Rattle.method_frames.specs.private.KnownRows.{AreGiven, AreKnown}
 use Rattle.method_frames.proofs.Given.{tops_given, set_given}
 
 abbrev pub view_of : Numbering → Rows → NumberedRows

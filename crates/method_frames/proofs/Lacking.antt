@@ -16,10 +16,10 @@ use Rattle.frames.proofs.PlaceAnswers.{walk_on, walk_over}
 use Rattle.type_numbers.specs.Numbers.{Numbering}
 use Rattle.type_numbers.specs.Decoding.{type_by, types_by}
 use Rattle.blocks.specs.Rows.{Rows, declared_row}
-use Rattle.method_frames.specs.private.Lacking.{row_answers, answer_for, IsUnfit, Lacks, IsLacking}
+use Rattle.method_frames.specs.private.TypeRows.{row_answers, answer_for, IsUnfit, Lacks, IsLacking}
 use Rattle.method_frames.specs.declared.type_rows.Lacking.{Lacking}
 use Rattle.method_frames.specs.NumberedRows.{NumberedRows, declared_in}
-use Rattle.method_frames.specs.private.RowFacts.{AreKnown}
+use Rattle.method_frames.specs.private.KnownRows.{AreKnown}
 use Rattle.method_frames.proofs.Answering.{whole, at, long}
 use Rattle.method_frames.proofs.Knowing.{view_of}
 

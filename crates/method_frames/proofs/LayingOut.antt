@@ -12,7 +12,7 @@ use Rattle.type_numbers.specs.Numbers.{Numbering, IsGiven}
 use Rattle.type_numbers.specs.Decoding.{type_by, types_by}
 use Rattle.method_frames.specs.NumberedFrames.{NumberedFrames}
 use Rattle.method_frames.specs.MapFrames.{IsLaidOut}
-use Rattle.method_frames.specs.private.RowFacts.{AreGiven}
+use Rattle.method_frames.specs.private.KnownRows.{AreGiven}
 use Rattle.method_frames.specs.private.MapEntries.{AreRewritten}
 
 pub units_are : (ts : List VerificationType) → units_of ts ≡ length (in_locals ts)

@@ -10,7 +10,7 @@ use Rattle.type_numbers.specs.Numbers.{Numbering, IsNumber, IsGiven}
 use Rattle.type_numbers.specs.Decoding.{type_by, types_by}
 use Rattle.type_numbers.proofs.Decoded.{number_read}
 use Rattle.method_frames.specs.NumberedFrames.{NumberedFrames}
-use Rattle.method_frames.specs.private.RowFacts.{AreGiven}
+use Rattle.method_frames.specs.private.KnownRows.{AreGiven}
 use Rattle.method_frames.specs.private.MapEntries.{AreNumbers, AreRewritten}
 use Rattle.method_frames.proofs.Counting.{types_reverse}
 

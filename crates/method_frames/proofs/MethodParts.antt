@@ -8,7 +8,7 @@ use Rattle.method_frames.specs.NumberedRows.{NumberedRows, declared_in}
 use Rattle.method_frames.specs.NumberedStacks.{NumberedStacks, declared_stack}
 use Rattle.method_frames.specs.NumberedFrames.{NumberedFrame, NumberedFrames, empty_frame, declared_frame}
 use Rattle.method_frames.specs.private.Frames.{frame_at, frames_of, HasParts, IsPlaceTable, AreFrames}
-use Rattle.method_frames.specs.declared.method.Declared.{Declared}
+use Rattle.method_frames.specs.declared.method_frames.Declared.{Declared}
 use Rattle.method_frames.proofs.Heights.{declared_more, get_end}
 use Rattle.method_frames.proofs.Offsets.{same_table, table_more}
 

@@ -13,7 +13,7 @@ use Rattle.frames.proofs.Walks.{width_is}
 use Rattle.type_numbers.specs.Numbers.{Numbering, IsNumber, absent_limit, absent_number, numbered, number_by}
 use Rattle.type_numbers.specs.Decoding.{or_top, type_with, name_at, type_at, type_by}
 use Rattle.type_numbers.proofs.NumberParts.{parts_of, tag_back}
-use Rattle.method_frames.specs.Objects.{is_object}
+use Rattle.method_frames.specs.Objects.{is_uninitialized}
 
 pick : (b : Bool) (x y : Option VerificationType) → is_wide (or_top x) ≡ false → is_wide (or_top y) ≡ false → is_wide (or_top (cond b x y)) ≡ false
 pick true x y a c = a
@@ -33,14 +33,14 @@ narrow_at s tag dims rest e f =
 pub narrow_tag : (n : ℕ) → n / 16777216 ≢ 3 → n / 16777216 ≢ 4 → (s : Numbering) → is_wide (type_by s n) ≡ false
 narrow_tag n a b s = narrow_at s (n / 16777216) (n / 65536 % 256) (n % 65536) (grind (arith, nat_tests, a)) (grind (arith, nat_tests, b))
 
-pub object_tag : (n : ℕ) → is_object n ≡ true → (n / 16777216 ≡ 6) ⊎ (n / 16777216 ≡ 8)
+pub object_tag : (n : ℕ) → is_uninitialized n ≡ true → (n / 16777216 ≡ 6) ⊎ (n / 16777216 ≡ 8)
 object_tag n o = by (nat_eq (n / 16777216) 6) refl o
   where
     by : (b : Bool) → nat_eq (n / 16777216) 6 ≡ b → (b || nat_eq (n / 16777216) 8) ≡ true → (n / 16777216 ≡ 6) ⊎ (n / 16777216 ≡ 8)
     by true e h = inl (grind (arith, nat_tests, e))
     by false e h = inr (grind (arith, nat_tests, h))
 
-pub object_narrow : (n : ℕ) → is_object n ≡ true → (s : Numbering) → is_wide (type_by s n) ≡ false
+pub object_narrow : (n : ℕ) → is_uninitialized n ≡ true → (s : Numbering) → is_wide (type_by s n) ≡ false
 object_narrow n o s = by (object_tag n o)
   where
     by : (n / 16777216 ≡ 6) ⊎ (n / 16777216 ≡ 8) → is_wide (type_by s n) ≡ false
@@ -68,7 +68,7 @@ far_narrow : (n : ℕ) → IsFar n → (t : Numbering) → is_wide (type_by t n)
 far_narrow n (inl e) = narrow_tag n (λ q. omega (arith, e, q)) (λ q. omega (arith, e, q))
 far_narrow n (inr le) = narrow_tag n (λ q. omega (arith, le, q)) (λ q. omega (arith, le, q))
 
-far_no_object : (n : ℕ) → IsFar n → is_object n ≡ false
+far_no_object : (n : ℕ) → IsFar n → is_uninitialized n ≡ false
 far_no_object n (inl e) = grind (arith, nat_tests, e)
 far_no_object n (inr le) = grind (arith, nat_tests, le)
 
@@ -79,14 +79,14 @@ module _ (s : Numbering) (n : ℕ) (name : List ℕ) (h : IsNumber s n (class na
   pub class_narrow : (t : Numbering) → is_wide (type_by t n) ≡ false
   class_narrow = far_narrow n far_class
 
-  pub class_no_object : is_object n ≡ false
+  pub class_no_object : is_uninitialized n ≡ false
   class_no_object = far_no_object n far_class
 
-near_object : (n tag dims rest : ℕ) → (nat_eq tag 6 || nat_eq tag 8) ≡ true → numbered tag dims rest ≡ Some n → is_object n ≡ true
+near_object : (n tag dims rest : ℕ) → (nat_eq tag 6 || nat_eq tag 8) ≡ true → numbered tag dims rest ≡ Some n → is_uninitialized n ≡ true
 near_object n tag dims rest t e = ap (λ k. nat_eq k 6 || nat_eq k 8) (tag_back tag dims rest n (parts_of tag dims rest n e)) ∙ t
 
 -- an object that is not initialized has the number of one
-pub object_by_type : (s : Numbering) (n : ℕ) (t : VerificationType) → IsNumber s n t → is_initialized t t ≡ true → is_object n ≡ true
+pub object_by_type : (s : Numbering) (n : ℕ) (t : VerificationType) → IsNumber s n t → is_initialized t t ≡ true → is_uninitialized n ≡ true
 object_by_type s n top h o = absurd (true≢false (sym o))
 object_by_type s n int h o = absurd (true≢false (sym o))
 object_by_type s n float h o = absurd (true≢false (sym o))

@@ -12,7 +12,7 @@ use Rattle.type_numbers.proofs.Decoded.{number_read}
 use Rattle.type_numbers.proofs.LawsOfNumbers.{one_number}
 use Rattle.method_frames.specs.Objects.{own_object, made_object, holds, replaced}
 use Rattle.method_frames.specs.ObjectLaws.{IsObjectType}
-use Rattle.method_frames.specs.private.RowFacts.{AreGiven}
+use Rattle.method_frames.specs.private.KnownRows.{AreGiven}
 
 pub own_number : (s : Numbering) → IsNumber s own_object uninit_this
 own_number s = record { number = refl; noted = tt }

@@ -7,7 +7,7 @@ use Rattle.std.proofs.lemmas.Option.{slice_get-get_or, slice_get_past}
 use Rattle.insn.specs.Operators.{StackForm}
 use Rattle.insn.specs.OperandStacks.{beneath, chosen, with_item, rearranged}
 use Rattle.type_numbers.specs.Numbers.{Numbering, IsGiven}
-use Rattle.method_frames.specs.private.RowFacts.{AreGiven}
+use Rattle.method_frames.specs.private.KnownRows.{AreGiven}
 use Rattle.method_frames.proofs.Given.{top_given}
 
 pub none_given : (s : Numbering) → AreGiven s []

@@ -12,10 +12,10 @@ use Rattle.frames.specs.FrameAssignable.{both, width_of, item_answer, stack_answ
 use Rattle.frames.specs.Slots.{units_of}
 use Rattle.type_numbers.specs.Numbers.{Numbering, IsGiven}
 use Rattle.type_numbers.specs.Decoding.{type_by, types_by}
-use Rattle.method_frames.specs.Objects.{is_object, replaced}
+use Rattle.method_frames.specs.Objects.{is_uninitialized, replaced}
 use Rattle.method_frames.specs.NumberedRows.{NumberedRows, declared_in}
 use Rattle.method_frames.specs.NumberedStacks.{NumberedStacks, declared_stack}
-use Rattle.method_frames.specs.private.RowFacts.{AreGiven}
+use Rattle.method_frames.specs.private.KnownRows.{AreGiven}
 use Rattle.method_frames.specs.private.Stacks.{stacks_of, IsHeight, AreStacks}
 use Rattle.method_frames.specs.declared.stack_rows.Height.{Height}
 use Rattle.method_frames.proofs.Counting.{map_reverse}
@@ -23,17 +23,17 @@ use Rattle.method_frames.proofs.Heights.{height_kept, is_height, its_stack}
 use Rattle.method_frames.proofs.StackComparing.{other_count, other_units}
 use Rattle.method_frames.proofs.StackGiven.{pushed_given, none_given}
 
-no_top : (object : ℕ) → is_object object ≡ true → 0 ≢ object
-no_top object o e = true≢false (sym o ∙ ap is_object (sym e))
+no_top : (object : ℕ) → is_uninitialized object ≡ true → 0 ≢ object
+no_top object o e = true≢false (sym o ∙ ap is_uninitialized (sym e))
 
 -- Top stays, so places beyond a row hold it
-pub replaced_at : (object by : ℕ) → is_object object ≡ true → (row : List ℕ) (p : ℕ) → get_or (map (replaced object by) row) p 0 ≡ replaced object by (get_or row p 0)
+pub replaced_at : (object by : ℕ) → is_uninitialized object ≡ true → (row : List ℕ) (p : ℕ) → get_or (map (replaced object by) row) p 0 ≡ replaced object by (get_or row p 0)
 replaced_at object by o row p =
     let other : nat_eq 0 object ≡ false = grind (arith, nat_tests, no_top object o) in
     let stays : replaced object by 0 ≡ 0 = ap (λ b. cond b by 0) other in
     subst (λ d. get_or (map (replaced object by) row) p d ≡ replaced object by (get_or row p 0)) stays (lists.get_or-map (replaced object by) row p 0)
 
-module _ (items : List ℕ) (rows new : NumberedRows) (written high : ℕ) (hs : List Height) (k : AreStacks items rows written high hs) (object by : ℕ) (o : is_object object ≡ true)
+module _ (items : List ℕ) (rows new : NumberedRows) (written high : ℕ) (hs : List Height) (k : AreStacks items rows written high hs) (object by : ℕ) (o : is_uninitialized object ≡ true)
     (rest : new ≡ record rows { running = new.running }) (size : length new.running ≡ length rows.running)
     (each : (p : ℕ) → (get_or new.running p 0 ≡ get_or rows.running p 0) ⊎ ((get_or rows.running p 0 ≡ object) × (get_or new.running p 0 ≡ by))) where
   tops_stay : (p : ℕ) → high ≤ p → (get_or new.running p 0 ≡ get_or rows.running p 0) ⊎ ((get_or rows.running p 0 ≡ object) × (get_or new.running p 0 ≡ by)) → get_or new.running p 0 ≡ 0

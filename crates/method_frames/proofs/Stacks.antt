@@ -9,7 +9,7 @@ use Rattle.type_numbers.specs.Numbers.{Numbering, IsGiven}
 use Rattle.type_numbers.specs.Decoding.{types_by}
 use Rattle.method_frames.specs.NumberedRows.{NumberedRows, declared_in}
 use Rattle.method_frames.specs.NumberedStacks.{NumberedStacks}
-use Rattle.method_frames.specs.private.RowFacts.{AreGiven}
+use Rattle.method_frames.specs.private.KnownRows.{AreGiven}
 use Rattle.method_frames.specs.private.Stacks.{stack_at, stacks_of, IsHeight, AreStacks, Changes, Holds}
 use Rattle.method_frames.specs.declared.stack_rows.Height.{Height}
 use Rattle.method_frames.proofs.StackGiven.{pushed_given, popped_given, form_given, beneath_drop}

@@ -10,8 +10,8 @@ use Rattle.blocks.proofs.Judging.{settled_slots_fit, truths_stay}
 use Rattle.type_numbers.specs.Numbers.{Numbering}
 use Rattle.type_numbers.specs.Decoding.{type_by, types_by}
 use Rattle.method_frames.specs.NumberedRows.{NumberedRows, declared_in}
-use Rattle.method_frames.specs.private.RowFacts.{AreGiven, AreKnown, fits}
-use Rattle.method_frames.specs.private.Lacking.{row_answers, IsUnfit}
+use Rattle.method_frames.specs.private.KnownRows.{AreGiven, AreKnown, fits}
+use Rattle.method_frames.specs.private.TypeRows.{row_answers, IsUnfit}
 use Rattle.method_frames.proofs.Answering.{judgement, whole, long, at, fitting, all_fit}
 use Rattle.method_frames.proofs.Knowing.{view_of}
 

@@ -7,7 +7,7 @@ use Rattle.frames.specs.Objects.{is_initialized, replaced as type_replaced}
 use Rattle.frames.specs.Objects.{has_object}
 use Rattle.type_numbers.specs.Numbers.{Numbering, IsNumber, IsGiven}
 use Rattle.type_numbers.specs.Decoding.{types_by}
-use Rattle.method_frames.specs.Objects.{own_object, made_object, is_object, holds, replaced}
+use Rattle.method_frames.specs.Objects.{own_object, made_object, is_uninitialized, holds, replaced}
 
 -- the type is that of an object that is not initialized
 abbrev pub IsObjectType : VerificationType → Type 0
@@ -26,7 +26,7 @@ ObjectsHaveNumbers = (s : Numbering) → IsNumber s own_object uninit_this
 -- each of them has the number of one
 abbrev pub ObjectsAreObjects : Type 0
 ObjectsAreObjects = (s : Numbering) (n : ℕ) (t : VerificationType) → IsNumber s n t → IsObjectType t
-    → is_object n ≡ true
+    → is_uninitialized n ≡ true
 
 -- another type takes the place of an object, where its number takes the place of the object's
 abbrev pub TypesAreReplaced : Type 0

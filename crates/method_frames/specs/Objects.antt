@@ -13,8 +13,8 @@ abbrev pub made_object : ℕ → ℕ
 made_object at = 134217728 + at
 
 -- the number is that of such an object
-abbrev pub is_object : ℕ → Bool
-is_object n = nat_eq (n / 16777216) 6 || nat_eq (n / 16777216) 8
+abbrev pub is_uninitialized : ℕ → Bool
+is_uninitialized n = nat_eq (n / 16777216) 6 || nat_eq (n / 16777216) 8
 
 -- an object is among these
 abbrev pub holds : ℕ → List ℕ → Bool

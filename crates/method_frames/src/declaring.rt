@@ -13,13 +13,13 @@ ghost use Rattle.type_numbers.specs.Numbers.{Numbering, IsNumber, IsGiven};
 ghost use Rattle.type_numbers.specs.Decoding.{type_by, types_by};
 ghost use Rattle.method_frames.specs.MapFrames.{AreDeclared, AreMore, IsLaidOut, frames_by, refused_by};
 ghost use Rattle.method_frames.specs.NumberedFrames.{frame_by};
-ghost use Rattle.method_frames.specs.private.RowFacts.{AreGiven};
+ghost use Rattle.method_frames.specs.private.KnownRows.{AreGiven};
 ghost use Rattle.method_frames.specs.private.MapEntries.{AreNumbers, AreRewritten, IsRestacked, Declares, locals_behind, chopped};
 
 use crate::entry_buffers::EntryBuffers;
 use crate::entry_locals::EntryLocals;
 use crate::items::append;
-use crate::method::MethodFrames;
+use crate::method_frames::MethodFrames;
 use frames::{FrameFault, Limits, MapEntry, RefusedEntry, Sizes, Starts, TypeInfo, judge_entry};
 use hierarchy::Classes;
 use std::alloc::{AllocError, Global};

@@ -1,18 +1,18 @@
-//! Memory in which the entries of stack maps are gone through, kept from method to method.
+//! Memory for the types of an entry of a stack map, kept from method to method.
 
 use std::alloc::Global;
 
-/// Memory in which the entries of a stack map are gone through. It says nothing of their frames.
+/// Memory for the types of an entry of a stack map. It holds nothing from one stack map to the next.
 #[derive(Drop)]
 pub struct EntryBuffers {
-    /// For the locals that an entry leaves.
+    /// For the locals of the frame that an entry declares.
     pub locals: Vec<u32>,
-    /// For the numbers of the types that an entry gives.
+    /// For the numbers of the types that stand in an entry.
     pub given: Vec<u32>,
 }
 
 impl EntryBuffers {
-    /// None yet.
+    /// Buffers without memory.
     pub fn new(alloc: Global) -> EntryBuffers {
         EntryBuffers {
             locals: Vec::new(alloc),

@@ -41,7 +41,7 @@ impl Model for EntryLocals {
 }
 
 impl EntryLocals {
-    /// None, in memory that there is.
+    /// No locals, in memory that there is.
     pub fn within(memory: Vec<u32>) -> EntryLocals
         ensures { result ≡ [] }
     {

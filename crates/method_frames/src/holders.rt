@@ -2,7 +2,7 @@
 ghost use Rattle.std.specs.Prelude.{◌≡◌, ◌%◌};
 ghost use Rattle.method_frames.specs.private.Holders.{key_of};
 
-use crate::objects::is_object;
+use crate::objects::is_uninitialized;
 use std::alloc::{AllocError, Global};
 use std::collections::BTreeSet;
 use std::collections::btree_set::Range;
@@ -34,10 +34,10 @@ pub fn place_in(key: u64) -> usize
 
 impl Holders {
     ghost use Rattle.std.specs.Prelude.{◌≡◌, ℕ, true, OnOk};
-    ghost use Rattle.method_frames.specs.Objects.{is_object};
+    ghost use Rattle.method_frames.specs.Objects.{is_uninitialized};
     ghost use Rattle.method_frames.specs.private.Holders.{IsListed, KeepsListed, AreOf};
 
-    /// None.
+    /// No places.
     pub fn new(alloc: Global) -> Holders {
         Holders {
             keys: BTreeSet::new(alloc),
@@ -63,9 +63,9 @@ impl Holders {
     #[inline(always)]
     pub fn list(&mut self, number: u32, place: usize) -> Result<(), AllocError>
         ensures kept { KeepsListed self.old self.new }
-        ensures listed { OnOk result (is_object number ≡ true → IsListed self.new number place) }
+        ensures listed { OnOk result (is_uninitialized number ≡ true → IsListed self.new number place) }
     {
-        if is_object(number) {
+        if is_uninitialized(number) {
             self.put(number, place)?;
         }
         Ok(())

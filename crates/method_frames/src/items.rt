@@ -2,7 +2,7 @@
 ghost use Rattle.std.specs.Prelude.{◌≡◌, ℕ, ◌+◌, ◌≤◌, ◌<◌, ◌-◌, true, [], ◌∷◌, ◌++◌, length, map, reverse, take, vec_len, vec_capacity, OnOk, OnErr};
 ghost use Rattle.insn.specs.OperandStacks.{rearranged};
 ghost use Rattle.insn.specs.Views.{stack_form_view};
-ghost use Rattle.method_frames.specs.Objects.{is_object, replaced, holds};
+ghost use Rattle.method_frames.specs.Objects.{is_uninitialized, replaced, holds};
 ghost use Rattle.method_frames.specs.private.Holders.{AreListed, AreListedFrom, KeepsListed};
 
 use crate::holders::{Holders, place_in};
@@ -13,8 +13,8 @@ use std::alloc::{AllocError, Global};
 use std::marker::Model;
 
 /// The items of an operand stack (JVMS 2.6.2), each by the number of its type. In contracts they are a list with the
-/// top first. The places that came to hold an object which is not initialized are listed, so that one is found and
-/// replaced in time for these places.
+/// top first. The places that came to hold an object which is not initialized are listed, so that to find or
+/// replace one takes time for these places alone.
 #[derive(Drop)]
 pub struct Items {
     /// From the bottom up.
@@ -92,7 +92,7 @@ fn rearrange_listed(
 
 /// Whether an object is among items, by the places that came to hold it.
 fn has_listed(object: u32, holders: &Holders, numbers: &[u32]) -> bool
-    requires object { is_object object ≡ true }
+    requires object { is_uninitialized object ≡ true }
     requires listed { AreListed holders.now numbers.now }
     ensures { result ≡ holds object numbers.now }
 {
@@ -107,7 +107,7 @@ fn has_listed(object: u32, holders: &Holders, numbers: &[u32]) -> bool
 
 /// Puts a number in place of an object's, at the places that came to hold it.
 fn replace_listed(object: u32, by: u32, holders: &Holders, numbers: &mut Vec<u32>)
-    requires object { is_object object ≡ true }
+    requires object { is_uninitialized object ≡ true }
     requires listed { AreListed holders.now numbers.old.items }
     ensures { numbers.new.items ≡ map (replaced object by) numbers.old.items }
 {
@@ -125,7 +125,7 @@ impl Items {
     ghost use Rattle.type_numbers.specs.Numbers.{Numbering};
     ghost use Rattle.type_numbers.specs.Decoding.{type_by, types_by};
 
-    /// None.
+    /// An empty stack.
     pub fn new(alloc: Global) -> Items
         ensures { result ≡ [] }
     {
@@ -206,7 +206,7 @@ impl Items {
         self.holders.clear();
     }
 
-    /// The item that so many stand above.
+    /// The item with so many above it; the top has none.
     #[inline(always)]
     pub fn item(&self, above: usize) -> Option<u32>
         ensures { result ≡ slice_get self.now above }
@@ -236,7 +236,7 @@ impl Items {
 
     /// Whether an object that is not initialized is among them.
     pub fn has(&self, object: u32) -> bool
-        requires { is_object object ≡ true }
+        requires { is_uninitialized object ≡ true }
         ensures { result ≡ holds object self.now }
     {
         has_listed(object, &self.holders, &self.numbers)
@@ -244,8 +244,8 @@ impl Items {
 
     /// Puts the number of a type that takes one unit in place of an object's, wherever that stands.
     pub fn replace(&mut self, object: u32, by: u32)
-        requires object { is_object object ≡ true }
-        requires none { is_object by ≡ false }
+        requires object { is_uninitialized object ≡ true }
+        requires none { is_uninitialized by ≡ false }
         requires narrow { (s : Numbering) → is_wide (type_by s by) ≡ false }
         ensures { self.new ≡ map (replaced object by) self.old }
     {

@@ -6,17 +6,17 @@ pub fn objects_have_numbers()
     ensures { ObjectsHaveNumbers }
 {}
 
-/// An object that is not initialized has the number of one.
+/// The type of an object that is not initialized has a number for which `is_uninitialized` is true.
 pub fn objects_are_objects()
     ensures { ObjectsAreObjects }
 {}
 
-/// Another type takes the place of an object's where its number takes the place of the object's.
+/// To replace an object's number in a row of numbers is to replace the object's type in the row of types.
 pub fn types_are_replaced()
     ensures { TypesAreReplaced }
 {}
 
-/// An object is among types where its number is among theirs.
+/// A row of types holds an object's type exactly where the row of their numbers holds the object's number.
 pub fn objects_are_found()
     ensures { ObjectsAreFound }
 {}

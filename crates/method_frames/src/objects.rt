@@ -1,6 +1,6 @@
 //! Objects that are not initialized, by the numbers of their types.
 ghost use Rattle.std.specs.Prelude.{◌≡◌, true};
-ghost use Rattle.method_frames.specs.Objects.{is_object, made_object, own_object};
+ghost use Rattle.method_frames.specs.Objects.{is_uninitialized, made_object, own_object};
 
 /// The tag with which the number of the own object begins that is not initialized.
 pub const OWN_TAG: u32 = 6;
@@ -14,15 +14,15 @@ pub const OWN_OBJECT: u32 = 0x0600_0000;
 /// The number of an object that the `new` at this offset made.
 pub fn made_object(at: u16) -> u32
     ensures number { result ≡ made_object at }
-    ensures object { is_object result ≡ true }
+    ensures object { is_uninitialized result ≡ true }
 {
     0x0800_0000 + u32::from(at)
 }
 
 /// Whether a number is that of an object that is not initialized.
 #[inline(always)]
-pub fn is_object(number: u32) -> bool
-    ensures { result ≡ is_object number }
+pub fn is_uninitialized(number: u32) -> bool
+    ensures { result ≡ is_uninitialized number }
 {
     let tag = number / 0x0100_0000;
     tag == OWN_TAG || tag == MADE_TAG

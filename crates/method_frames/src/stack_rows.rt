@@ -1,6 +1,6 @@
 //! Operand stacks: of the running frame of a method, and of its declared frames.
 ghost use Rattle.std.specs.Prelude.{◌≡◌, ◌≤◌, length, take, reverse, OnOk};
-ghost use Rattle.method_frames.specs.private.RowFacts.{AreGiven};
+ghost use Rattle.method_frames.specs.private.KnownRows.{AreGiven};
 ghost use Rattle.method_frames.specs.private.Stacks.{Changes, Holds};
 
 use crate::items::Items;
@@ -101,7 +101,7 @@ impl<'t, 'c, 'n, C: Classes> StackRows<'t, 'c, 'n, C> {
     ghost use Rattle.method_frames.specs.ObjectLaws.{IsObjectType};
     ghost use Rattle.type_numbers.specs.Decoding.{type_by, types_by};
     ghost use Rattle.method_frames.specs.NumberedStacks.{declared_stack};
-    ghost use Rattle.method_frames.specs.Objects.{is_object, replaced, holds};
+    ghost use Rattle.method_frames.specs.Objects.{is_uninitialized, replaced, holds};
 
     /// Stacks of which none that is declared has more items than this; the running one has none.
     pub fn new(
@@ -196,7 +196,7 @@ impl<'t, 'c, 'n, C: Classes> StackRows<'t, 'c, 'n, C> {
 
     /// Whether an object that is not initialized is on the running stack.
     pub fn has(&self, object: u32) -> bool
-        requires { is_object object ≡ true }
+        requires { is_uninitialized object ≡ true }
         ensures number { result ≡ holds object self.now.running }
         ensures types { let s = self.now.types in (o : VerificationType) → IsNumber s object o → IsObjectType o
             → result ≡ has_object o (types_by s self.now.running) }
@@ -207,8 +207,8 @@ impl<'t, 'c, 'n, C: Classes> StackRows<'t, 'c, 'n, C> {
     /// Puts the number of a type that takes one unit in place of an object's, throughout the running stack. The only
     /// refusal is 1, and the stack stays as it was then.
     pub fn replace(&mut self, object: u32, by: u32) -> Result<(), AllocError>
-        requires object { is_object object ≡ true }
-        requires none { is_object by ≡ false }
+        requires object { is_uninitialized object ≡ true }
+        requires none { is_uninitialized by ≡ false }
         requires narrow { (s : Numbering) → is_wide (type_by s by) ≡ false }
         requires given { IsGiven self.old.types by }
         ensures ok { OnOk result (self.new

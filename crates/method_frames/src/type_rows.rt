@@ -1,7 +1,7 @@
 //! Rows of types: of the running frame of a method, and of its declared frames.
 ghost use Rattle.std.specs.Prelude.{◌≡◌, ℕ, true, false, length, map, slice_index, OnOk};
 ghost use Rattle.blocks.specs.Rows.{Rows};
-ghost use Rattle.method_frames.specs.Objects.{is_object, replaced};
+ghost use Rattle.method_frames.specs.Objects.{is_uninitialized, replaced};
 ghost use Rattle.method_frames.specs.private.Holders.{AreListed, Replaces};
 
 use crate::holders::{Holders, place_in};
@@ -12,8 +12,8 @@ use std::alloc::{AllocError, Global};
 use std::marker::Model;
 use type_numbers::TypeNumbers;
 
-/// Rows of so many places are compared in less time than it takes to copy one, which a row that was said to fit another
-/// must be before it changes.
+/// Rows of at most so many places are compared again each time. To note that one fits would have it copied before its
+/// next change, which takes longer than the comparison.
 const ONE_BLOCK: usize = 16;
 
 /// A declared row for which a class is missing while the running one stays as it is.
@@ -35,8 +35,8 @@ struct Lacking<'n> {
 /// Where a class is missing for a declared row, others are compared only from the place on at which they differ from
 /// that one.
 ///
-/// The places that came to hold an object which is not initialized are listed, so that it is replaced in time for these
-/// places.
+/// The places that came to hold an object which is not initialized are listed, so that to replace it takes time for these
+/// places alone.
 #[derive(Drop)]
 pub struct TypeRows<'t, 'c, 'n, C: Classes> {
     types: &'t TypeNumbers<'c, 'n, C>,
@@ -48,7 +48,7 @@ pub struct TypeRows<'t, 'c, 'n, C: Classes> {
 
 impl<'t, 'c, 'n, C: Classes> Model for TypeRows<'t, 'c, 'n, C> {
     ghost use Rattle.method_frames.specs.NumberedRows.{NumberedRows};
-    ghost use Rattle.method_frames.specs.private.Lacking.{AreTypeRows};
+    ghost use Rattle.method_frames.specs.private.TypeRows.{AreTypeRows};
 
     ghost Value = { NumberedRows };
 
@@ -69,7 +69,7 @@ fn replace_listed(
     holders: &Holders,
     rows: &mut Arena,
 ) -> Result<(), AllocError>
-    requires object { is_object object ≡ true }
+    requires object { is_uninitialized object ≡ true }
     requires listed { AreListed holders.now rows.old.running }
     ensures only { Replaces object by rows.old rows.new }
     ensures all { OnOk result (rows.new.running ≡ map (replaced object by) rows.old.running) }
@@ -91,7 +91,7 @@ impl<'t, 'c, 'n, C: Classes> TypeRows<'t, 'c, 'n, C> {
     ghost use Rattle.frames.specs.VerificationType.{VerificationType, type_of};
     ghost use Rattle.frames.specs.Objects.{replaced as type_replaced};
     ghost use Rattle.method_frames.specs.ObjectLaws.{IsObjectType};
-    ghost use Rattle.method_frames.specs.Objects.{is_object, replaced};
+    ghost use Rattle.method_frames.specs.Objects.{is_uninitialized, replaced};
     ghost use Rattle.hierarchy.specs.Answer.{outcome_of, yes};
     ghost use Rattle.frames.specs.Assignable.{type_answer};
     ghost use Rattle.frames.specs.FrameAssignable.{list_answer};
@@ -101,7 +101,7 @@ impl<'t, 'c, 'n, C: Classes> TypeRows<'t, 'c, 'n, C> {
     ghost use Rattle.blocks.specs.Rows.{IsFirstUnequal};
     ghost use Rattle.frames.specs.FrameAssignable.{both};
     ghost use Rattle.frames.specs.PackedFrames.{joined};
-    ghost use Rattle.method_frames.specs.private.Lacking.{row_answers, IsUnfit};
+    ghost use Rattle.method_frames.specs.private.TypeRows.{row_answers, IsUnfit};
 
     /// Rows with so many places; the running one holds Top throughout.
     pub fn new(
@@ -175,8 +175,8 @@ impl<'t, 'c, 'n, C: Classes> TypeRows<'t, 'c, 'n, C> {
     /// Puts a number in place of an object's, throughout the running row. The only refusal is 1, and then some of the
     /// places may hold that number already.
     pub fn replace(&mut self, object: u32, by: u32) -> Result<(), AllocError>
-        requires object { is_object object ≡ true }
-        requires by { is_object by ≡ false }
+        requires object { is_uninitialized object ≡ true }
+        requires by { is_uninitialized by ≡ false }
         requires given { IsGiven self.old.types by }
         ensures rest { self.new ≡ record self.old { running = self.new.running } }
         ensures size { length self.new.running ≡ length self.old.running }
@@ -306,9 +306,9 @@ impl<'t, 'c, 'n, C: Classes> TypeRows<'t, 'c, 'n, C> {
         }
     }
 
-    /// From which place on a declared row is to be compared; the answer for the places in front of it; and, if that is
-    /// a missing class, how many first places give it. In front of it are the places that the row has in common with
-    /// the one for which a class is missing, if they give the answer of that one, and else none.
+    /// Where the comparison with a declared row begins: the first place to compare; the answer for the places in front of
+    /// it; and, if that is a missing class, how many first places give it. In front of it are the places that the row has
+    /// in common with the one for which a class is missing, if they give the answer of that one, and otherwise none.
     fn start(&self, row: Row) -> (usize, Answer<'n>, usize)
         requires row { row < length self.now.declared }
         ensures within { result.0 ≤ length self.now.running }

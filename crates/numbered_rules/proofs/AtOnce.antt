@@ -26,8 +26,8 @@ use Rattle.rules.specs.Outcomes.{TookOff}
 use Rattle.numbered_rules.specs.declared.expected.Expected.{Expected}
 use Rattle.numbered_rules.specs.Expected.{accepts_by, objects, own_or, StandsFor}
 use Rattle.numbered_rules.specs.RunningFrame.{held}
-use Rattle.numbered_rules.specs.private.Kinds.{holds_references}
-use Rattle.numbered_rules.specs.private.Taking.{AreMet}
+use Rattle.numbered_rules.specs.private.TypeParts.{holds_references}
+use Rattle.numbered_rules.specs.private.MetAtOnce.{AreMet}
 
 -- ---- one type
 

@@ -27,7 +27,7 @@ use Rattle.rules.specs.TypingRules.{ExpectedType, number, pops, loads_element}
 use Rattle.rules.specs.After.{after, element_of, top_of, rest_of, with_stack}
 use Rattle.rules.specs.Outcomes.{Done}
 use Rattle.rules.specs.Rules.{conditions, gives_frame, is_too_wide, operand_conditions}
-use Rattle.numbered_rules.specs.private.Kinds.{holds_references, holds_references_by}
+use Rattle.numbered_rules.specs.private.TypeParts.{holds_references, holds_references_by}
 
 -- ---- one dimension less, or more
 

@@ -15,7 +15,7 @@ use Rattle.frames.specs.Slots.{descriptor_type, is_wide}
 use Rattle.type_numbers.specs.Constants.{loaded_type}
 use Rattle.rules.specs.TypingRules.{gives, refuses}
 use Rattle.rules.specs.Constants.{load_constant, load_wide_constant}
-use Rattle.numbered_rules.specs.private.Loading.{load_by, load_computed, units_by}
+use Rattle.numbered_rules.specs.private.ConstantLoads.{load_by, load_computed, units_by}
 
 alike : (a b : Bool) → not (beq a b) ≡ false → a ≡ b
 alike true true e = refl

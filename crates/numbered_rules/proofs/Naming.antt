@@ -9,9 +9,9 @@ use Rattle.type_numbers.specs.Numbers.{Numbering, IsNumber, IsNumberOf, IsGiven}
 use Rattle.type_numbers.proofs.Decoded.{number_read}
 use Rattle.rules.specs.TypingRules.{result_types}
 use Rattle.numbered_rules.specs.Expected.{types_given}
-use Rattle.numbered_rules.specs.declared.named_constants.NamedField.{NamedField}
-use Rattle.numbered_rules.specs.declared.named_constants.NamedMethod.{NamedMethod}
-use Rattle.numbered_rules.specs.declared.named_constants.NamedSite.{NamedSite}
+use Rattle.numbered_rules.specs.declared.constant_lookups.NamedField.{NamedField}
+use Rattle.numbered_rules.specs.declared.constant_lookups.NamedMethod.{NamedMethod}
+use Rattle.numbered_rules.specs.declared.constant_lookups.NamedSite.{NamedSite}
 use Rattle.numbered_rules.specs.private.Named.{IsField, IsFieldOf, IsMethod, IsMethodOf, IsSite, IsSiteOf}
 
 -- ---- numbers that there are, or are not

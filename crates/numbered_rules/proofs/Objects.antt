@@ -13,7 +13,7 @@ use Rattle.type_numbers.proofs.Decoded.{number_read, one_type}
 use Rattle.type_numbers.proofs.LawsOfNumbers.{one_number}
 use Rattle.method_frames.specs.NumberedFrames.{NumberedFrame, NumberedFrames, frame_by}
 use Rattle.method_frames.specs.ObjectLaws.{IsObjectType, ObjectBecomes}
-use Rattle.method_frames.specs.Objects.{own_object, is_object, flag_after as flag_by}
+use Rattle.method_frames.specs.Objects.{own_object, is_uninitialized, flag_after as flag_by}
 use Rattle.method_frames.proofs.ObjectNumbers.{object_by_type, object_tag}
 use Rattle.method_frames.proofs.ObjectTypes.{own_number}
 use Rattle.rules.specs.After.{class_after, flag_after}
@@ -53,7 +53,7 @@ module _ (s : Numbering) (n : ℕ) (t : VerificationType) (h : IsNumber s n t) w
   tagged tag e = ap (λ k. or_top (type_at s k (n / 65536 % 256) (n % 65536))) e
 
   -- an object that `new` made
-  pub made_type : is_object n ≡ true → (n ≡ own_object → ⊥) → t ≡ uninit (n % 65536)
+  pub made_type : is_uninitialized n ≡ true → (n ≡ own_object → ⊥) → t ≡ uninit (n % 65536)
   made_type o other = by (object_tag n o)
     where
       by : (n / 16777216 ≡ 6) ⊎ (n / 16777216 ≡ 8) → t ≡ uninit (n % 65536)
@@ -62,7 +62,7 @@ module _ (s : Numbering) (n : ℕ) (t : VerificationType) (h : IsNumber s n t) w
 
   module _ (m : Method Act) (name : List ℕ) where
     -- no object
-    pub may_not : is_object n ≡ false → may_construct m name t ≡ false
+    pub may_not : is_uninitialized n ≡ false → may_construct m name t ≡ false
     may_not o = by t refl
       where
         none : IsObjectType t → ⊥
@@ -107,7 +107,7 @@ module _ (s : Numbering) (n : ℕ) (t : VerificationType) (h : IsNumber s n t) w
         by (class c) e = cc
         by (array x) e = cc
 
-    pub may_object : may_construct m name t ≡ true → is_object n ≡ true
+    pub may_object : may_construct m name t ≡ true → is_uninitialized n ≡ true
     may_object e = object_by_type s n t h (may_type e)
 
   -- the flag afterwards

@@ -14,7 +14,7 @@ use Rattle.rules.specs.TypingRules.{assignable_to, number, refuses}
 use Rattle.rules.specs.Table.{leaves_with, return_number, return_reference}
 use Rattle.rules.specs.Outcomes.{result_kind}
 use Rattle.rules.specs.Rules.{is_reference}
-use Rattle.numbered_rules.specs.private.Kinds.{is_reference_by}
+use Rattle.numbered_rules.specs.private.TypeParts.{is_reference_by}
 use Rattle.numbered_rules.proofs.TypeParts.{reference_parts}
 
 same_kinds : (kind : Kind) → same_kind kind kind ≡ true

@@ -12,7 +12,7 @@ use Rattle.type_numbers.specs.Decoding.{element_at, type_with, type_at}
 use Rattle.type_numbers.proofs.Decoded.{far, read_back}
 use Rattle.rules.specs.After.{is_narrow}
 use Rattle.rules.specs.Rules.{is_array, is_array_for, is_reference}
-use Rattle.numbered_rules.specs.private.Kinds.{is_array_by, is_array_for_by, is_narrow_by, is_own_by, is_reference_by}
+use Rattle.numbered_rules.specs.private.TypeParts.{is_array_by, is_array_for_by, is_narrow_by, is_own_by, is_reference_by}
 
 -- ---- classes and arrays of them
 

@@ -1,4 +1,4 @@
--- Instructions that take no operand and push one type.
+-- Instructions that leave all operands on the stack and push one type: constants, loads, and `dup` of one item.
 use Rattle.std.specs.Prelude.{ℕ, Result, [], ◌∷◌}
 use Rattle.classfile.specs.Methods.{Method}
 use Rattle.hierarchy.specs.Answer.{yes}

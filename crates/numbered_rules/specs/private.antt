@@ -1,6 +1,6 @@
 -- Words of the code's own steps, which its private contracts use: nothing that a reader must believe rests on them.
-pub mod Kinds
+pub mod TypeParts
 pub mod Named
-pub mod Loading
+pub mod ConstantLoads
 pub mod Calls
-pub mod Taking
+pub mod MetAtOnce

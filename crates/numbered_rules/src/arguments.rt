@@ -18,8 +18,8 @@ use frames::both;
 use hierarchy::{Answer, Classes};
 use method_frames::MethodFrames;
 
-/// Takes one more operand off the stack, of a type that is assignable to the one of a number, and says whether all were
-/// of their types; none where the stack is empty.
+/// Takes one more operand off the stack, and returns whether it and those before it are of types that are assignable to
+/// the expected ones, this one to that of a number; none where the stack is empty.
 #[inline(always)]
 fn take_one<'n, C: Classes>(
     so_far: Answer<'n>,

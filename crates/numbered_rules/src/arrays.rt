@@ -18,7 +18,7 @@ ghost use Rattle.numbered_rules.specs.RunningFrame.{held, IsRunning};
 
 use crate::expected::{Expected, holds_references};
 use crate::fixed_numbers::{NULL, TOP, number_of};
-use crate::shared_rules::pops;
+use crate::pops_and_pushes::pops;
 use classfile::CodeMethod;
 use hierarchy::Classes;
 use insn::{Kind, computed_as};

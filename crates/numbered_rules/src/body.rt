@@ -6,7 +6,8 @@ use crate::rule_numbers::RuleNumbers;
 use classfile::CodeMethod;
 use frames::CodeStarts;
 
-/// The code of a method, with everything that the rules of its instructions ask for (JVMS 4.10.1.6), besides the frame.
+/// The code of a method, with everything that the rules of its instructions ask for (JVMS 4.10.1.6), besides the frame
+/// and the facts about what an instruction names.
 #[derive(Clone, Copy)]
 pub struct Body<'n, 'a> {
     /// The method, with its Code attribute.

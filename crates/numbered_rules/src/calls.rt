@@ -18,9 +18,9 @@ ghost use Rattle.rules.specs.Outcomes.{Done};
 ghost use Rattle.numbered_rules.specs.RunningFrame.{held, IsRunning};
 
 use crate::arguments::take_arguments;
-use crate::casts_and_arrays::dimensions;
-use crate::named_constants::{NamedMethod, method_at, site_at};
-use crate::shared_rules::settle;
+use crate::class_operands::dimensions;
+use crate::constant_lookups::{NamedMethod, method_at, site_at};
+use crate::pops_and_pushes::push_result_if_any;
 use classfile::CodeMethod;
 use hierarchy::{Answer, Classes};
 use method_frames::MethodFrames;
@@ -28,7 +28,7 @@ use rules::Reason;
 use type_numbers::{ConstantTable, MethodNumbers};
 
 /// A call of a method of these types, with its arguments on a receiver, if it has one. Its refusals are 61 and 62,
-/// those of [`judge_frame_after`](crate::judge_frame_after), and 1 where memory runs out.
+/// those of [`judge_frame_after`](crate::pops_and_pushes::judge_frame_after), and 1 where memory runs out.
 fn calls<'n, C: Classes>(
     method: &CodeMethod<'_, '_>,
     called: MethodNumbers,
@@ -50,7 +50,7 @@ fn calls<'n, C: Classes>(
         None => Err(Reason::MissingOperand),
         Some(answer) => match answer {
             Answer::No => Err(Reason::WrongOperand),
-            _ => settle(method, answer, called.result, frames),
+            _ => push_result_if_any(method, answer, called.result, frames),
         },
     }
 }

@@ -21,12 +21,12 @@ ghost use Rattle.numbered_rules.specs.RuleNumbers.{AreRuleNumbers};
 use crate::arguments::take_arguments;
 use crate::body::Body;
 use crate::calls::{has_room_for_receiver, is_of_class};
-use crate::named_constants::{NamedMethod, class_named};
+use crate::constant_lookups::{NamedMethod, class_named};
+use crate::pops_and_pushes::push_result_if_any;
 use crate::rule_numbers::RuleNumbers;
-use crate::shared_rules::settle;
 use frames::Starts;
 use hierarchy::{Answer, Classes};
-use method_frames::{MethodFrames, OWN_OBJECT, is_object};
+use method_frames::{MethodFrames, OWN_OBJECT, is_uninitialized};
 use rules::Reason;
 
 /// The number of the class that the `new` at an offset makes an object of, if there is one.
@@ -41,7 +41,7 @@ fn class_made_at(at: u16, body: &Body<'_, '_>) -> Option<u32>
     }
 }
 
-/// Whether there is a class, and it is the one of a number.
+/// Whether there is a class, and it has this number.
 fn is_class(known: Option<u32>, class: u32) -> bool
     ensures { (s : Numbering) (o : Option (List ℕ)) (name : List ℕ) → IsNumberOf s known (option_map class_of o)
         → IsNumber s class (class_of name) → result ≡ is_name o name }
@@ -70,7 +70,7 @@ fn may_construct(class: u32, object: u32, body: &Body<'_, '_>) -> bool
     if object == OWN_OBJECT {
         return is_class_or_superclass(class, &body.numbers);
     }
-    if !is_object(object) {
+    if !is_uninitialized(object) {
         return false;
     }
     is_class(class_made_at((object % 0x1_0000) as u16, body), class)
@@ -118,7 +118,7 @@ fn constructs<'n, C: Classes>(
         Answer::No => Err(Reason::WrongOperand),
         _ => {
             frames.initialize(object, class_after(called.class, object, &body.numbers))?;
-            settle(body.method, answer, None, frames)
+            push_result_if_any(body.method, answer, None, frames)
         }
     }
 }

@@ -6,12 +6,12 @@ ghost use Rattle.type_numbers.specs.Decoding.{type_by};
 ghost use Rattle.rules.specs.TypingRules.{number};
 ghost use Rattle.numbered_rules.specs.declared.expected.Expected.{Expected};
 ghost use Rattle.numbered_rules.specs.Expected.{accepts_by, number_asked, IsExpected, StandsFor};
-ghost use Rattle.numbered_rules.specs.private.Kinds.{holds_references_by, is_array_by, is_array_for_by, is_own_by, is_reference_by};
+ghost use Rattle.numbered_rules.specs.private.TypeParts.{holds_references_by, is_array_by, is_array_for_by, is_own_by, is_reference_by};
 
 use crate::fixed_numbers::number_of;
 use hierarchy::{Answer, Classes};
 use insn::{Kind, takes_array};
-use method_frames::is_object;
+use method_frames::is_uninitialized;
 use names::Primitive;
 use type_numbers::{Parts, TypeNumbers, element_at};
 
@@ -162,7 +162,7 @@ impl Expected {
             Expected::Array => is_array(Parts::of(number)),
             Expected::ArrayFor(primitive) => is_array_for(primitive, Parts::of(number)),
             Expected::OwnOr(to) => number == to,
-            Expected::Object(_) => is_reference(Parts::of(number)) && !is_object(number),
+            Expected::Object(_) => is_reference(Parts::of(number)) && !is_uninitialized(number),
             Expected::ObjectArray(_) => holds_references(Parts::of(number)),
         }
     }

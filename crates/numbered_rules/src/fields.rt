@@ -10,9 +10,9 @@ ghost use Rattle.rules.specs.Bodies.{method_view};
 ghost use Rattle.rules.specs.Outcomes.{Done};
 ghost use Rattle.numbered_rules.specs.RunningFrame.{held, IsRunning};
 
+use crate::constant_lookups::field_at;
 use crate::expected::Expected;
-use crate::named_constants::field_at;
-use crate::shared_rules::{gives, pops};
+use crate::pops_and_pushes::{gives, pops};
 use classfile::CodeMethod;
 use hierarchy::Classes;
 use method_frames::MethodFrames;

@@ -1,4 +1,4 @@
-//! The numbers of the types that every method may name.
+//! The numbers of the types that have one number in every method.
 ghost use Rattle.std.specs.Prelude.{◌≡◌};
 ghost use Rattle.frames.specs.Slots.{number_type};
 ghost use Rattle.type_numbers.specs.Numbers.{Numbering, IsNumber};

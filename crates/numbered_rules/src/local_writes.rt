@@ -1,4 +1,4 @@
-//! Local variables in place.
+//! Writes to a local variable of the running frame, in place.
 ghost use Rattle.std.specs.Prelude.{◌≡◌, ◌<◌, length, OnOk};
 ghost use Rattle.type_numbers.specs.Numbers.{IsGiven};
 ghost use Rattle.type_numbers.specs.Decoding.{type_by};

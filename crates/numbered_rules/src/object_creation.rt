@@ -10,8 +10,8 @@ ghost use Rattle.rules.specs.Bodies.{method_view};
 ghost use Rattle.rules.specs.Outcomes.{Done};
 ghost use Rattle.numbered_rules.specs.RunningFrame.{held, IsRunning};
 
-use crate::named_constants::class_named;
-use crate::shared_rules::give;
+use crate::constant_lookups::class_named;
+use crate::pops_and_pushes::push_result;
 use classfile::CodeMethod;
 use hierarchy::{Answer, Classes};
 use method_frames::{MethodFrames, made_object};
@@ -33,7 +33,7 @@ fn makes<'n, C: Classes>(
         return Err(Reason::WrongOperand);
     }
     frames.forget(at)?;
-    give(method, Answer::Yes, made_object(at), frames)
+    push_result(method, Answer::Yes, made_object(at), frames)
 }
 
 /// `new` at an offset. Its refusals are 66 where it names no class, 62 where the object that was made there before is

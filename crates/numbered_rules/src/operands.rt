@@ -7,7 +7,7 @@ ghost use Rattle.rules.specs.Rules.{is_short};
 ghost use Rattle.rules.specs.Outcomes.{TookOff};
 ghost use Rattle.numbered_rules.specs.Expected.{AreExpected, StandsFor};
 ghost use Rattle.numbered_rules.specs.RunningFrame.{held, IsRunning};
-ghost use Rattle.numbered_rules.specs.private.Taking.{AreMet};
+ghost use Rattle.numbered_rules.specs.private.MetAtOnce.{AreMet};
 
 use crate::expected::Asked;
 use frames::both;

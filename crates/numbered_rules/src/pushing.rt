@@ -1,4 +1,5 @@
-//! Instructions that take no operand and push one type, where the numbers of types tell at once that they may.
+//! Instructions that leave all operands on the stack and push one type, where the numbers of types tell at once that
+//! they may.
 ghost use Rattle.std.specs.Prelude.{◌≡◌, ◌≤◌, ℕ, length, IfSome};
 ghost use Rattle.insn.specs.Operators.{stack_forms};
 ghost use Rattle.insn.specs.declared.stack.StackOperator.TheVariants.{Dup};
@@ -15,7 +16,7 @@ ghost use Rattle.numbered_rules.specs.Pushing.{IsPush};
 
 use crate::expected::Expected;
 use crate::fixed_numbers::{NULL, number_of};
-use crate::shared_rules::give;
+use crate::pops_and_pushes::push_result;
 use crate::stacks::is_narrow;
 use classfile::CodeMethod;
 use hierarchy::{Answer, Classes};
@@ -106,5 +107,5 @@ pub fn push<'n, C: Classes>(
         → Done (conditions frames.old.types.classes m at p f) (after m at p f) (held frames.new) result }
     ensures rest { IsRunning frames.old frames.new }
 {
-    give(method, Answer::Yes, number, frames)
+    push_result(method, Answer::Yes, number, frames)
 }

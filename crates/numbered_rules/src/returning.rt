@@ -11,7 +11,7 @@ ghost use Rattle.rules.specs.Outcomes.{Done};
 ghost use Rattle.numbered_rules.specs.RunningFrame.{held, IsRunning};
 
 use crate::expected::{Expected, is_reference};
-use crate::shared_rules::{judge_frame_after, pops};
+use crate::pops_and_pushes::{judge_frame_after, pops};
 use classfile::CodeMethod;
 use hierarchy::{Answer, Classes};
 use insn::Kind;

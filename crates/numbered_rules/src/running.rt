@@ -16,19 +16,19 @@ use crate::arrays::{
 };
 use crate::body::Body;
 use crate::calls::{invoke_dynamic, invoke_interface, invoke_static, invoke_virtual};
-use crate::casts_and_arrays::{check_cast, instance_of, new_multi_array, new_reference_array};
-use crate::constants::loads_constant;
+use crate::class_operands::{check_cast, instance_of, new_multi_array, new_reference_array};
+use crate::constant_loads::loads_constant;
 use crate::fields::{get_field, get_static, put_field, put_static};
+use crate::invoke_special::invoke_special;
+use crate::local_rules::increments;
 use crate::object_creation::new_object;
 use crate::returning::{return_nothing, return_number, return_reference};
 use crate::rule_numbers::{NamedFacts, RuleNumbers};
-use crate::shared_rules::increments;
 use crate::simple_rules::{
     array_length, computes, gives_null, gives_number, loads_number, loads_reference, stores_number,
     stores_reference, takes_int, takes_ints, takes_nothing, takes_reference, takes_references,
     throws,
 };
-use crate::special_calls::invoke_special;
 use crate::stacks::rearranges;
 use classfile::CodeMethod;
 use hierarchy::Classes;
@@ -39,8 +39,8 @@ use rules::Reason;
 /// Runs the instruction at an offset on the running frame, in place, by its rule (JVMS 4.10.1.9). The frame has
 /// max_locals locals, and the facts are those of what the instruction names.
 ///
-/// The instruction is refused with the least number of its rule that holds (60 to 66, 74, 76, 77, 90), or with 1 where
-/// memory ran out; then nothing is said of the frame but how many locals it has.
+/// The instruction is refused with the least number among the conditions of its rule that hold (60 to 66, 74, 76, 77,
+/// 90), or with 1 where memory ran out; then nothing is said of the frame but how many locals it has.
 pub fn run<'n, C: Classes>(
     body: &Body<'_, '_>,
     at: u16,

@@ -17,8 +17,8 @@ ghost use Rattle.numbered_rules.specs.RunningFrame.{held, IsRunning};
 
 use crate::expected::Expected;
 use crate::fixed_numbers::{INT, NULL, number_of};
-use crate::shared_rules::{gives, judge_frame_after, loads, pops};
-use crate::storing::stores;
+use crate::local_rules::{loads, stores};
+use crate::pops_and_pushes::{gives, judge_frame_after, pops};
 use classfile::CodeMethod;
 use hierarchy::{Answer, Classes};
 use insn::{Kind, NumericOperator};
@@ -197,7 +197,7 @@ pub fn loads_reference<'n, C: Classes>(
     loads(method, Expected::Reference, local, 1, frames)
 }
 
-/// A number on top of the stack to a local variable.
+/// Stores the number on top of the stack to a local variable.
 pub fn stores_number<'n, C: Classes>(
     method: &CodeMethod<'_, '_>,
     kind: Kind,
@@ -213,7 +213,7 @@ pub fn stores_number<'n, C: Classes>(
     stores(method, Expected::number(kind), local, kind.units(), frames)
 }
 
-/// A reference on top of the stack to a local variable.
+/// Stores the reference on top of the stack to a local variable.
 pub fn stores_reference<'n, C: Classes>(
     method: &CodeMethod<'_, '_>,
     local: u16,

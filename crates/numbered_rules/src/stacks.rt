@@ -10,9 +10,9 @@ ghost use Rattle.rules.specs.Rules.{conditions};
 ghost use Rattle.rules.specs.Bodies.{method_view};
 ghost use Rattle.rules.specs.Outcomes.{Done};
 ghost use Rattle.numbered_rules.specs.RunningFrame.{held, IsRunning};
-ghost use Rattle.numbered_rules.specs.private.Kinds.{is_narrow_by};
+ghost use Rattle.numbered_rules.specs.private.TypeParts.{is_narrow_by};
 
-use crate::shared_rules::judge_frame_after;
+use crate::pops_and_pushes::judge_frame_after;
 use classfile::CodeMethod;
 use hierarchy::{Answer, Classes};
 use insn::{StackForm, StackOperator, StackPlace};

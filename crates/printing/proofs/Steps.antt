@@ -6,7 +6,7 @@ use Rattle.insn.specs.declared.fault.CodeFault.{CodeFault}
 use Rattle.insn.specs.Instructions.{Instruction}
 use Rattle.insn.specs.Code.{StepsThrough, StepsBy}
 use Rattle.insn.specs.Offsets.{at_offset, by_made}
-use Rattle.insn.specs.CodeResults.{CodeResult, behind}
+use Rattle.insn.specs.Decoding.{CodeResult, behind}
 use Rattle.insn.proofs.CodeResults.{result_at, step_reads, stop_reads, end_reads}
 use Rattle.insn.proofs.CodeLaws.{given_step, shorter}
 use Rattle.printing.specs.CodeLines.{fault_of}

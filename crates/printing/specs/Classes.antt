@@ -6,7 +6,7 @@ use Rattle.pool.specs.Entries.{Entry}
 use Rattle.classfile.specs.ClassAttributes.{components_of, permitted_of}
 use Rattle.classfile.specs.Values.{Handler, CodeBody, Member, Component, ClassAttribute, Class}
 use Rattle.classfile.specs.Methods.{code_of}
-use Rattle.insn.specs.CodeResults.{code_result}
+use Rattle.insn.specs.Decoding.{code_result}
 use Rattle.printing.specs.CodeLines.{code_lines, fault_of}
 use Rattle.printing.specs.Names.{hexadecimal, constant_text, class_text}
 

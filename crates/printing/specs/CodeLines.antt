@@ -7,7 +7,7 @@ use Rattle.pool.specs.Entries.{Entry}
 use Rattle.classfile.specs.Values.{Handler, CodeBody}
 use Rattle.insn.specs.declared.fault.CodeFault.{CodeFault}
 use Rattle.insn.specs.Offsets.{at_offset}
-use Rattle.insn.specs.CodeResults.{CodeResult, code_result}
+use Rattle.insn.specs.Decoding.{CodeResult, code_result}
 use Rattle.insn.specs.Instructions.{Instruction}
 use Rattle.printing.specs.Faults.{code_fault_text}
 use Rattle.printing.specs.InstructionLines.{instruction_text, instruction_line}

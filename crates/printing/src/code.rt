@@ -4,7 +4,7 @@ ghost use Rattle.std.specs.Option.{option_map_or};
 ghost use Rattle.std.specs.List.{flat_map};
 ghost use Rattle.insn.specs.Instructions.{Instruction};
 ghost use Rattle.insn.specs.Offsets.{at_offset};
-ghost use Rattle.insn.specs.CodeResults.{code_result};
+ghost use Rattle.insn.specs.Decoding.{code_result};
 ghost use Rattle.insn.specs.Views.{view};
 ghost use Rattle.classfile.specs.Views.{handler_view, code_view};
 ghost use Rattle.printing.specs.Writing.{Writes};

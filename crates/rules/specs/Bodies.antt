@@ -5,7 +5,7 @@ use Rattle.classfile.specs.declared.code_method.CodeMethod.{CodeMethod}
 use Rattle.classfile.specs.CodeMethods.{code_method_view}
 use Rattle.insn.specs.Meanings.{Act}
 use Rattle.insn.specs.Offsets.{acts}
-use Rattle.insn.specs.CodeResults.{instructions_in}
+use Rattle.insn.specs.Decoding.{instructions_in}
 
 abbrev pub method_view : CodeMethod → Method Act
 method_view m = code_method_view m (acts (instructions_in m.code.now.code.now))

@@ -32,8 +32,7 @@ keeps_locals (acts.InvokeSpecial i) = false
 keeps_locals (acts.New i) = false
 keeps_locals _ = true
 
--- it goes on to the next one and nowhere else, makes no object of a class, and names no class, field, method, dynamic
--- constant or call site that is looked up
+-- it goes on to the next one and nowhere else, makes no object of a class, and names no constant of the pool
 abbrev pub is_plain : Act → Bool
 is_plain a = goes_on a && nat_eq (length (branch_offsets a)) 0 && is_none (made_index a) && names_nothing a
 

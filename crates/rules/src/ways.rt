@@ -32,7 +32,7 @@ pub fn goes_on(act: &Act<'_>) -> bool
 }
 
 /// Whether an instruction with this act is plain: it goes on to the next one and nowhere else, is not a `new`, and
-/// names no class, field, method, dynamic constant or call site that is looked up.
+/// names no constant of the pool.
 pub fn is_plain(act: &Act<'_>) -> bool
     ensures { result ≡ is_plain (act_view act.now) }
 {

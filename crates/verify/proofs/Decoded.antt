@@ -3,7 +3,7 @@ use Rattle.std.proofs.Common.{◌≡◌, ℕ, ◌+◌, ◌<◌, List, [], ◌∷
 use Rattle.insn.specs.Instructions.{Instruction}
 use Rattle.insn.specs.Meanings.{act}
 use Rattle.insn.specs.Code.{SpellsCode}
-use Rattle.insn.specs.CodeResults.{or_none, instructions_in}
+use Rattle.insn.specs.Decoding.{or_none, instructions_in}
 use Rattle.insn.proofs.CodeResults.{only_result}
 use Rattle.insn.specs.Offsets.{IsStart, acts, StartsRise}
 

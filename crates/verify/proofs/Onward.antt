@@ -10,7 +10,7 @@ use Rattle.insn.specs.declared.acts.Act as program
 use Rattle.insn.specs.Code.{StepsBy}
 use Rattle.insn.specs.Meanings.{Act}
 use Rattle.insn.specs.Offsets.{at_offset, first_offset, acts, by_act}
-use Rattle.insn.specs.CodeResults.{CodeResult, behind}
+use Rattle.insn.specs.Decoding.{CodeResult, behind}
 use Rattle.insn.specs.Views.{act_located}
 use Rattle.insn.proofs.CodeLaws.{has_bytes, given_step}
 use Rattle.insn.proofs.CodeResults.{result_at, step_reads, end_reads, some_left}

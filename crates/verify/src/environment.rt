@@ -8,7 +8,7 @@ ghost use Rattle.classfile.specs.Values.{CodeBody};
 ghost use Rattle.classfile.specs.Views.{class_view};
 ghost use Rattle.insn.specs.Code.{SpellsCode};
 ghost use Rattle.insn.specs.Offsets.{acts};
-ghost use Rattle.insn.specs.CodeResults.{code_result};
+ghost use Rattle.insn.specs.Decoding.{code_result};
 ghost use Rattle.insn.specs.Views.{views};
 ghost use Rattle.rules.specs.Bodies.{method_view};
 

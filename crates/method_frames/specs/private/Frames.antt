@@ -5,7 +5,7 @@ use Rattle.insn.specs.Offsets.{at_offset}
 use Rattle.method_frames.specs.NumberedRows.{NumberedRows, declared_in}
 use Rattle.method_frames.specs.NumberedStacks.{NumberedStacks, declared_stack}
 use Rattle.method_frames.specs.NumberedFrames.{NumberedFrame, NumberedFrames}
-use Rattle.method_frames.specs.declared.method.Declared.{Declared}
+use Rattle.method_frames.specs.declared.method_frames.Declared.{Declared}
 
 -- a declared frame with its offset
 abbrev pub frame_at : NumberedRows → NumberedStacks → Declared → ℕ × NumberedFrame

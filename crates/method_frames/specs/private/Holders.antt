@@ -5,8 +5,8 @@ use Rattle.std.specs.Ordering.{nat_cmp}
 use Rattle.std.specs.BTreeMap.{is_at}
 use Rattle.type_numbers.specs.Numbers.{Numbering}
 use Rattle.blocks.specs.Rows.{Rows, declared_row}
-use Rattle.method_frames.specs.Objects.{is_object, replaced}
-use Rattle.method_frames.specs.private.RowFacts.{AreKnown}
+use Rattle.method_frames.specs.Objects.{is_uninitialized, replaced}
+use Rattle.method_frames.specs.private.KnownRows.{AreKnown}
 use Rattle.method_frames.specs.private.Counted.{IsCounted}
 use Rattle.method_frames.specs.declared.holders.Holders.{Holders}
 
@@ -28,7 +28,7 @@ AreOf x object keys = (place : ℕ) → IsListed x object place
 
 -- each place of a row that holds an object is listed
 abbrev pub AreListed : Holders → List ℕ → Type 0
-AreListed x row = (place : ℕ) → place < length row → is_object (slice_index row place) ≡ true
+AreListed x row = (place : ℕ) → place < length row → is_uninitialized (slice_index row place) ≡ true
     → IsListed x (slice_index row place) place
 
 pub record AreHeld (s : Numbering) (rows : Rows) (x : Holders) : Type 0 where
@@ -60,5 +60,5 @@ pub record AreItems (numbers : List ℕ) (wides : ℕ) (x : Holders) : Type 0 wh
 
 -- each item from a place up that is an object is listed
 abbrev pub AreListedFrom : ℕ → Holders → List ℕ → Type 0
-AreListedFrom from x row = (place : ℕ) → from ≤ place → place < length row → is_object (slice_index row place) ≡ true
+AreListedFrom from x row = (place : ℕ) → from ≤ place → place < length row → is_uninitialized (slice_index row place) ≡ true
     → IsListed x (slice_index row place) place

@@ -13,7 +13,7 @@ use Rattle.type_numbers.specs.Numbers.{Numbering}
 use Rattle.type_numbers.specs.Decoding.{types_by}
 use Rattle.method_frames.specs.NumberedFrames.{NumberedFrames, frame_by}
 use Rattle.method_frames.specs.MapFrames.{IsLaidOut}
-use Rattle.method_frames.specs.private.RowFacts.{AreGiven}
+use Rattle.method_frames.specs.private.KnownRows.{AreGiven}
 
 -- a row of numbers that were given to these types
 pub record AreNumbers (s : Numbering) (row : List ℕ) (types : List VerificationType) : Type 0 where

@@ -6,9 +6,9 @@ use Rattle.frames.specs.Slots.{descriptor_type, to_reference}
 use Rattle.type_numbers.specs.Numbers.{Numbering, IsNumber}
 use Rattle.type_numbers.specs.MethodNumbers.{AreTypes}
 use Rattle.rules.specs.Constants.{is_init_name, is_special_name}
-use Rattle.numbered_rules.specs.declared.named_constants.NamedField.{NamedField}
-use Rattle.numbered_rules.specs.declared.named_constants.NamedMethod.{NamedMethod}
-use Rattle.numbered_rules.specs.declared.named_constants.NamedSite.{NamedSite}
+use Rattle.numbered_rules.specs.declared.constant_lookups.NamedField.{NamedField}
+use Rattle.numbered_rules.specs.declared.constant_lookups.NamedMethod.{NamedMethod}
+use Rattle.numbered_rules.specs.declared.constant_lookups.NamedSite.{NamedSite}
 
 pub record IsField (s : Numbering) (x : NamedField) (f : FieldConstant) : Type 0 where
   pub class : IsNumber s x.class (class_of f.class)

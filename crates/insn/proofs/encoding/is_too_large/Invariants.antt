@@ -1,7 +1,7 @@
 use Rattle.std.proofs.Common.{◌≡◌, map, drop}
 use Rattle.std.specs.Prelude.{nat_lt}
 use Rattle.layout.specs.declared.limits.TheConstants.{MAX_CODE_BYTES}
-use Rattle.insn.specs.Sizes.{code_size}
+use Rattle.insn.specs.InstructionSizes.{code_size}
 use Rattle.insn.specs.Views.{view}
 use Rattle.insn.proofs.encoding.is_too_large.Given as goal
 

@@ -4,7 +4,7 @@ use Rattle.std.proofs.lemmas.Int.{to_z-of_z}
 use Rattle.byteorder.specs.Endian.{big_number}
 use Rattle.insn.specs.Instructions.{operands_at, index, constant, local, branch, byte, short}
 use Rattle.insn.specs.Meanings.{index_of, local_of, offset_of}
-use Rattle.insn.specs.private.Parts.{index_and_byte}
+use Rattle.insn.specs.private.OperandParts.{index_and_byte}
 use Rattle.insn.proofs.Taken.{has_number, byte_there, two_there, by_part, by_any, increment_there, interface_there}
 use Rattle.insn.proofs.instruction_reading.common_act.Goals as goal
 

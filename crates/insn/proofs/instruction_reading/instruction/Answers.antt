@@ -1,6 +1,6 @@
 use Rattle.std.proofs.Common.{rules, ◌≡◌, Some, Ok, sym, subst, ◌∙◌}
 use Rattle.layout.specs.Format.{number}
-use Rattle.insn.specs.private.Steps.{Decodes, or_cut}
+use Rattle.insn.specs.private.PartReading.{Decodes, or_cut}
 use Rattle.insn.specs.Instructions.{instruction_at, behind_opcode}
 use Rattle.insn.specs.Opcodes.{opcode_of}
 use Rattle.insn.specs.Views.{view}

@@ -1,5 +1,5 @@
 use Rattle.std.proofs.Common.{◌≡◌, ◌-◌, Ok, length, take, sym, ap, ◌∙◌}
-use Rattle.insn.specs.Switches.{lookup_switch_of}
+use Rattle.insn.specs.SwitchParts.{lookup_switch_of}
 use Rattle.insn.specs.Views.{lookup_switch_view}
 use Rattle.insn.proofs.Kept.{lookup_kept}
 use Rattle.insn.proofs.instruction_reading.lookup_switch.Goals as goal

@@ -1,7 +1,7 @@
 use Rattle.std.proofs.Common.{rules, subst, w32, to_z, of_z}
 use Rattle.std.specs.Int.{cast_signed}
 use Rattle.layout.specs.Format.{number, part, done, andthen}
-use Rattle.insn.specs.private.Steps.{Decodes}
+use Rattle.insn.specs.private.PartReading.{Decodes}
 use Rattle.insn.specs.Instructions.{lookup_switch_at, pairs_behind, padding_at}
 use Rattle.insn.specs.Views.{lookup_switch_view}
 use Rattle.insn.proofs.Steps.{goes_on, part_read, passed}

@@ -1,5 +1,5 @@
 use Rattle.std.proofs.Common.{◌≡◌, ◌-◌, Ok, length, take, sym, ap, ◌∙◌}
-use Rattle.insn.specs.Switches.{table_switch_of}
+use Rattle.insn.specs.SwitchParts.{table_switch_of}
 use Rattle.insn.specs.Views.{table_switch_view}
 use Rattle.insn.proofs.Kept.{table_kept}
 use Rattle.insn.proofs.instruction_reading.table_switch.Goals as goal

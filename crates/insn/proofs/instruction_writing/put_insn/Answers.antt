@@ -1,6 +1,6 @@
 use Rattle.std.proofs.Common.{rules, ◌++◌, ap, ◌∙◌, length}
 use Rattle.byteorder.specs.Endian.{big_bytes}
-use Rattle.insn.specs.Spellings.{IsFine}
+use Rattle.insn.specs.WrittenInstructions.{IsFine}
 use Rattle.insn.specs.Views.{view}
 use Rattle.insn.proofs.OperandLaws.{appended}
 use Rattle.insn.proofs.instruction_writing.put_insn.Goals as goal

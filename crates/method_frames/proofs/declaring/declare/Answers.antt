@@ -1,5 +1,5 @@
 use Rattle.std.proofs.Common.{subst, sym}
-use Rattle.method_frames.specs.private.RowFacts.{AreGiven}
+use Rattle.method_frames.specs.private.KnownRows.{AreGiven}
 use Rattle.method_frames.proofs.declaring.declare.Goals as goal
 
 pub declare_within-requires-clause-given : goal.declare_within-requires-clause-given

@@ -1,6 +1,6 @@
 use Rattle.std.proofs.Common.{◌∙◌, sym, ap, subst}
 use Rattle.method_frames.specs.MapFrames.{IsLaidOut}
-use Rattle.method_frames.specs.private.RowFacts.{AreGiven}
+use Rattle.method_frames.specs.private.KnownRows.{AreGiven}
 use Rattle.method_frames.proofs.LayingOut.{top_laid}
 use Rattle.method_frames.proofs.declaring.declare_within.Goals as goal
 

@@ -1,5 +1,5 @@
 use Rattle.std.proofs.Common.{sym, subst, arith}
-use Rattle.method_frames.specs.private.RowFacts.{AreGiven}
+use Rattle.method_frames.specs.private.KnownRows.{AreGiven}
 use Rattle.method_frames.proofs.StackGiven.{pushed_given}
 use Rattle.method_frames.proofs.StackWriting.{read_more}
 use Rattle.method_frames.proofs.stack_rows.read.Goals as goal

@@ -1,5 +1,5 @@
 use Rattle.std.proofs.Common.{◌≡◌, take, reverse}
-use Rattle.method_frames.specs.private.RowFacts.{AreGiven}
+use Rattle.method_frames.specs.private.KnownRows.{AreGiven}
 use Rattle.method_frames.proofs.stack_rows.read.Given as goal
 
 abbrev pub invariant-loop-place : goal.invariant-loop-place

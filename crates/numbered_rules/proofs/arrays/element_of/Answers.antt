@@ -1,5 +1,5 @@
 use Rattle.std.proofs.Common.{◌≡◌, ◌∙◌, sym, ap₂}
-use Rattle.numbered_rules.specs.private.Kinds.{holds_references, holds_references_by}
+use Rattle.numbered_rules.specs.private.TypeParts.{holds_references, holds_references_by}
 use Rattle.numbered_rules.proofs.Elements.{element_number, no_element_number, null_element_number, holds_parts}
 use Rattle.numbered_rules.proofs.arrays.element_of.Goals as goal
 

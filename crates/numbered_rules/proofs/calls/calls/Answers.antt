@@ -22,8 +22,8 @@ take_arguments-requires-clause-parameters g c =
     let t = c.requires.types.0 in
     numbers_given s c.arguments.result.now (map descriptor_type t.params) (subst (λ ns. AreNumbers s ns (map descriptor_type t.params)) (sym c.arguments.ensures) c.requires.types.1.arguments)
 
-pub settle-requires : goal.settle-requires
-settle-requires g c =
+pub push_result_if_any-requires : goal.push_result_if_any-requires
+push_result_if_any-requires g c =
     let s = c.args.frames.now.types in
     let t = c.requires.types.0 in
     subst (λ z. IfSome c.args.called.result (IsGiven z)) (sym (types_stay c.args.frames.now c.take_arguments.new.frames c.in-Some.ensures.rest))
@@ -41,8 +41,8 @@ returns-in_default g c = record {
       let numbers = subst (λ ns. AreNumbers s ns (map descriptor_type t.params)) (sym c.arguments.ensures) h.arguments in
       let same : types_given c.take_arguments.new.frames.types c.args.called.result ≡ result_types t.result =
       ap (λ z. types_given z c.args.called.result) (types_stay c.args.frames.now c.take_arguments.new.frames c.in-Some.ensures.rest) ∙ result_given s c.args.called.result t.result h.result in
-      off_done s.classes m ws (result_types t.result) f a y (held c.settle.new.frames) c.settle.result
+      off_done s.classes m ws (result_types t.result) f a y (held c.push_result_if_any.new.frames) c.push_result_if_any.result
       (c.in-Some.ensures.taken t.params r numbers k) (not_no c.in-Some.answer c.in_default.not-No)
-      (subst (λ gs. Done (settled m a (pushed gs y)) (pushed gs y) (held c.settle.new.frames) c.settle.result) same c.settle.ensures.done);
-  rest = running_then c.args.frames.now c.take_arguments.new.frames c.settle.new.frames c.in-Some.ensures.rest c.settle.ensures.rest;
+      (subst (λ gs. Done (settled m a (pushed gs y)) (pushed gs y) (held c.push_result_if_any.new.frames) c.push_result_if_any.result) same c.push_result_if_any.ensures.done);
+  rest = running_then c.args.frames.now c.take_arguments.new.frames c.push_result_if_any.new.frames c.in-Some.ensures.rest c.push_result_if_any.ensures.rest;
 }

@@ -1,6 +1,6 @@
 use Rattle.std.proofs.Common.{◌∙◌, None, option_map, sym, ap, subst}
 use Rattle.insn.specs.Offsets.{acts, at_offset}
-use Rattle.insn.specs.CodeResults.{instructions_in}
+use Rattle.insn.specs.Decoding.{instructions_in}
 use Rattle.frames.specs.Marks.{new_index}
 use Rattle.frames.specs.VerificationType.{class as class_of}
 use Rattle.type_numbers.specs.Numbers.{IsNumberOf}

@@ -151,8 +151,8 @@ returns-in_ok-initialize-in_default-answer g c =
           let here : IsNumber z.types n t = subst (λ u. IsNumber u n t) same object in
           let becomes = subst (λ u. IsNumber u c.class_after.result (class_of later)) same (c.class_after.ensures s m name t c.requires.numbers class object) in
           constructs_done s.classes m at name ws f (outcome_of c.in-Some.answer) (held y) (c.in-Some.ensures.taken k.type.params None numbers tt)
-          t (held z) (beneath_held x y z n run under given) (held i) (held c.settle.new.frames) later c.settle.result may (not_no c.in-Some.answer c.in_default-answer.not-No) refl
+          t (held z) (beneath_held x y z n run under given) (held i) (held c.push_result_if_any.new.frames) later c.push_result_if_any.result may (not_no c.in-Some.answer c.in_default-answer.not-No) refl
           (initialized_held z i n t later here c.initialize.ensures.rest (c.in_ok-initialize-in_default-answer.ensures.types t (class_of later) here becomes (may_type s n t object m name may)) (ap (λ (r : NumberedFrame). r.flag) c.in_ok-initialize-in_default-answer.ensures.ok))
-          c.settle.ensures.done;
-      rest = running_then x i c.settle.new.frames (running_then x z i ran (record { others = c.initialize.ensures.rest; size = c.initialize.ensures.size })) c.settle.ensures.rest;
+          c.push_result_if_any.ensures.done;
+      rest = running_then x i c.push_result_if_any.new.frames (running_then x z i ran (record { others = c.initialize.ensures.rest; size = c.initialize.ensures.size })) c.push_result_if_any.ensures.rest;
     }

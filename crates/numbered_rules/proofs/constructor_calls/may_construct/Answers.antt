@@ -10,13 +10,13 @@ returns-then-object-eq-OWN_OBJECT c = λ s name t numbers class object.
     let m = method_view c.args.body.now.method.now in
     c.is_class_or_superclass.ensures s m name numbers class ∙ sym (ap (may_construct m name) (own_type s c.args.object t object c.if-object-eq-OWN_OBJECT.true))
 
-pub returns-then-not-is_object : goal.returns-then-not-is_object
-returns-then-not-is_object c = λ s name t numbers class object.
-    sym (may_not s c.args.object t object (method_view c.args.body.now.method.now) name (sym c.is_object.ensures ∙ c.if-not-is_object.true))
+pub returns-then-not-is_uninitialized : goal.returns-then-not-is_uninitialized
+returns-then-not-is_uninitialized c = λ s name t numbers class object.
+    sym (may_not s c.args.object t object (method_view c.args.body.now.method.now) name (sym c.is_uninitialized.ensures ∙ c.if-not-is_uninitialized.true))
 
 pub returns : goal.returns
 returns c = λ s name t numbers class object.
     let m = method_view c.args.body.now.method.now in
     let at = c.args.object % 65536 in
-    let made = made_type s c.args.object t object (sym c.is_object.ensures ∙ c.if-not-is_object.false) c.if-object-eq-OWN_OBJECT.false in
+    let made = made_type s c.args.object t object (sym c.is_uninitialized.ensures ∙ c.if-not-is_uninitialized.false) c.if-object-eq-OWN_OBJECT.false in
     c.is_class.ensures s (class_made_at m at) name (c.class_made_at.ensures s numbers.table) class ∙ sym (ap (may_construct m name) made)

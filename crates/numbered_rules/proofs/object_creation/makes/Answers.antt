@@ -20,8 +20,8 @@ returns-then-has_made-clause-done g c = λ name.
     let f = held c.args.frames.now in
     record { outcome = inr (makes_again s.classes (method_view c.args.method.now) c.args.at name f (sym (on_stack c.args.at f.stack) ∙ sym c.has_made.ensures.types ∙ c.if-has_made.true)) }
 
-pub give-requires : goal.give-requires
-give-requires g c =
+pub push_result-requires : goal.push_result-requires
+push_result-requires g c =
     let at = c.args.at in
     subst (λ n. IsGiven c.forget.new.self.types n) (sym c.made_object.ensures.number) (uninit at, made_number c.forget.new.self.types at c.ranges.at.fits)
 
@@ -37,9 +37,9 @@ returns g c = record {
       let same = types_stay old new run in
       let is : type_by new.types c.made_object.result ≡ uninit at =
       ap (type_by new.types) c.made_object.ensures.number ∙ number_read new.types _ (uninit at) (made_number new.types at c.ranges.at.fits) in
-      let now = held c.give.new.frames in
-      makes_done s.classes (method_view c.args.method.now) at name f (held new) now c.give.result (sym (on_stack at f.stack) ∙ sym c.has_made.ensures.types ∙ c.if-has_made.false)
+      let now = held c.push_result.new.frames in
+      makes_done s.classes (method_view c.args.method.now) at name f (held new) now c.push_result.result (sym (on_stack at f.stack) ∙ sym c.has_made.ensures.types ∙ c.if-has_made.false)
       (locals_held old new c.forget.ensures.rest (map (forgotten at) f.locals) c.in_ok-forget.ensures.types)
-      (subst (λ (t : VerificationType). Done (settled (method_view c.args.method.now) yes (pushed (t ∷ []) (held new))) (pushed (t ∷ []) (held new)) now c.give.result) is c.give.ensures.done);
-  rest = running_then c.args.frames.now c.forget.new.self c.give.new.frames (locals_run c.args.frames.now c.forget.new.self c.forget.ensures.rest c.forget.ensures.size) c.give.ensures.rest;
+      (subst (λ (t : VerificationType). Done (settled (method_view c.args.method.now) yes (pushed (t ∷ []) (held new))) (pushed (t ∷ []) (held new)) now c.push_result.result) is c.push_result.ensures.done);
+  rest = running_then c.args.frames.now c.forget.new.self c.push_result.new.frames (locals_run c.args.frames.now c.forget.new.self c.forget.ensures.rest c.forget.ensures.size) c.push_result.ensures.rest;
 }

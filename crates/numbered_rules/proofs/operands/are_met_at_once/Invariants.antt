@@ -1,5 +1,5 @@
 use Rattle.std.proofs.Common.{drop, map}
-use Rattle.numbered_rules.specs.private.Taking.{AreMet}
+use Rattle.numbered_rules.specs.private.MetAtOnce.{AreMet}
 use Rattle.numbered_rules.proofs.operands.are_met_at_once.Given as goal
 
 abbrev pub invariant-loop-above : goal.invariant-loop-above

@@ -2,7 +2,7 @@ use Rattle.std.proofs.Common.{◌∙◌, sym, ap}
 use Rattle.type_numbers.proofs.Decoded.{number_read}
 use Rattle.rules.specs.After.{is_narrow}
 use Rattle.rules.specs.Bodies.{method_view}
-use Rattle.numbered_rules.specs.private.Kinds.{is_narrow_by}
+use Rattle.numbered_rules.specs.private.TypeParts.{is_narrow_by}
 use Rattle.numbered_rules.proofs.Moving.{dup_done}
 use Rattle.numbered_rules.proofs.TypeParts.{narrow_parts}
 use Rattle.numbered_rules.proofs.pushing.top_pushed.Goals as goal

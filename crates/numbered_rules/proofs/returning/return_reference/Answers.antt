@@ -8,7 +8,7 @@ use Rattle.rules.specs.TypingRules.{assignable_to}
 use Rattle.rules.specs.declared.reason.Reason.TheVariants.{WrongReturn}
 use Rattle.rules.proofs.Settling.{by_typing_rule}
 use Rattle.numbered_rules.specs.RunningFrame.{held}
-use Rattle.numbered_rules.specs.private.Kinds.{is_reference_by}
+use Rattle.numbered_rules.specs.private.TypeParts.{is_reference_by}
 use Rattle.numbered_rules.proofs.Judging.{refused}
 use Rattle.numbered_rules.proofs.Results.{reference_returned, no_reference_returned}
 use Rattle.numbered_rules.proofs.Standing.{type_stands}

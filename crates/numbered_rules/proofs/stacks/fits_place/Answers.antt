@@ -2,7 +2,7 @@ use Rattle.std.proofs.Common.{◌∙◌, sym, ap}
 use Rattle.frames.specs.Slots.{is_wide}
 use Rattle.type_numbers.proofs.Decoded.{number_read}
 use Rattle.rules.specs.After.{fits_place}
-use Rattle.numbered_rules.specs.private.Kinds.{is_narrow_by}
+use Rattle.numbered_rules.specs.private.TypeParts.{is_narrow_by}
 use Rattle.numbered_rules.proofs.TypeParts.{narrow_parts}
 use Rattle.numbered_rules.proofs.stacks.fits_place.Goals as goal
 

@@ -1,6 +1,6 @@
 -- The fault is that of what is left.
 use Rattle.std.proofs.Common.{◌≡◌, length}
-use Rattle.insn.specs.CodeResults.{code_result}
+use Rattle.insn.specs.Decoding.{code_result}
 use Rattle.insn.proofs.CodeResults.{result_at}
 use Rattle.printing.specs.CodeLines.{fault_of}
 use Rattle.printing.proofs.code.code_fault.Given as goal

@@ -2,7 +2,7 @@
 use Rattle.std.proofs.Common.{◌≡◌, ℕ, List, Ok}
 use Rattle.insn.specs.Instructions.{Instruction}
 use Rattle.insn.specs.Offsets.{at_offset}
-use Rattle.insn.specs.CodeResults.{code_result}
+use Rattle.insn.specs.Decoding.{code_result}
 use Rattle.insn.proofs.CodeResults.{result_at}
 use Rattle.printing.proofs.code.find_instruction.Given as goal
 

@@ -2,7 +2,7 @@
 use Rattle.std.proofs.Common.{◌≡◌, ℕ, List, Ok}
 use Rattle.std.specs.List.{flat_map}
 use Rattle.insn.specs.Instructions.{Instruction}
-use Rattle.insn.specs.CodeResults.{code_result}
+use Rattle.insn.specs.Decoding.{code_result}
 use Rattle.insn.proofs.CodeResults.{result_at}
 use Rattle.printing.specs.InstructionLines.{instruction_line}
 use Rattle.printing.proofs.Writings.{SoFar}

@@ -2,7 +2,7 @@ use Rattle.std.proofs.Common.{◌≡◌, ◌∙◌, ℕ, List, Ok, Err, sym}
 use Rattle.insn.specs.Code.{FaultyCode}
 use Rattle.insn.specs.declared.fault.CodeFault.{CodeFault}
 use Rattle.insn.specs.Instructions.{Instruction}
-use Rattle.insn.specs.CodeResults.{CodeResult, code_result}
+use Rattle.insn.specs.Decoding.{CodeResult, code_result}
 use Rattle.insn.specs.Views.{views}
 use Rattle.insn.proofs.CodeResults.{only_result}
 use Rattle.verify.proofs.FramesFound.{told}

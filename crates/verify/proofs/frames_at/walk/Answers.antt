@@ -6,7 +6,7 @@ use Rattle.insn.specs.declared.acts.Act as program
 use Rattle.insn.specs.Code.{StepsBy}
 use Rattle.insn.specs.Meanings.{Act}
 use Rattle.insn.specs.Offsets.{at_offset, acts, by_act}
-use Rattle.insn.specs.CodeResults.{or_none, instructions_in}
+use Rattle.insn.specs.Decoding.{or_none, instructions_in}
 use Rattle.insn.specs.Views.{act_located}
 use Rattle.insn.proofs.CodeResults.{result_at, whole_reading, only_result, has_instruction}
 use Rattle.frames.specs.FrameFact.{FrameFact}

@@ -6,7 +6,7 @@ use Rattle.classfile.proofs.MethodLaws.{method_says}
 use Rattle.insn.specs.Code.{SpellsCode}
 use Rattle.insn.specs.Meanings.{Act}
 use Rattle.insn.specs.Offsets.{acts}
-use Rattle.insn.specs.CodeResults.{instructions_in}
+use Rattle.insn.specs.Decoding.{instructions_in}
 use Rattle.rules.specs.Bodies.{method_view}
 use Rattle.verify.specs.InitialFrames.{initial_types}
 use Rattle.verify.proofs.InitialNumbers.{kept_read, kept_given}

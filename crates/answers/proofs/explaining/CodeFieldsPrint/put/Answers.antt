@@ -1,7 +1,7 @@
 use Rattle.std.proofs.Common.{◌≡◌, ◌∙◌, List, Option, Some, ℕ, map, option_map, sym, ap, subst}
 use Rattle.classfile.specs.Methods.{code_of}
 use Rattle.classfile.specs.Views.{attribute_view, code_view}
-use Rattle.insn.specs.CodeResults.{code_result}
+use Rattle.insn.specs.Decoding.{code_result}
 use Rattle.printing.specs.CodeLines.{size_fields, instruction_fields, named_fields_at}
 use Rattle.printing.specs.Json.{fields_then, fields_behind}
 use Rattle.printing.specs.Writing.{Writes}

@@ -1,7 +1,7 @@
 use Rattle.std.proofs.Common.{◌≡◌, ◌∙◌, ◌++◌, List, ℕ, Some, map, option_map, sym, ap, subst}
 use Rattle.classfile.specs.Methods.{code_of}
 use Rattle.classfile.specs.Views.{attribute_view, code_view}
-use Rattle.insn.specs.CodeResults.{code_result}
+use Rattle.insn.specs.Decoding.{code_result}
 use Rattle.frames.specs.declared.difference.Sought.{Sought}
 use Rattle.rules.specs.Reasons.{reason_number}
 use Rattle.printing.specs.CodeLines.{sizes_line, line_at, named_at}

@@ -3,7 +3,7 @@ use Rattle.hierarchy.specs.Answer.{outcome_of}
 use Rattle.frames.specs.FrameAssignable.{both}
 use Rattle.frames.specs.PackedFrames.{joined}
 use Rattle.method_frames.specs.NumberedRows.{declared_in}
-use Rattle.method_frames.specs.private.Lacking.{row_answers}
+use Rattle.method_frames.specs.private.TypeRows.{row_answers}
 use Rattle.method_frames.proofs.Walking.{at_no, past, next_within, here_unfit, at_end}
 use Rattle.method_frames.proofs.Lacking.{yes_alone}
 use Rattle.method_frames.proofs.type_rows.TypeRows.answer_anew.Goals as goal

@@ -3,7 +3,7 @@ use Rattle.hierarchy.specs.Answer.{outcome_of, yes}
 use Rattle.frames.specs.FrameAssignable.{both}
 use Rattle.frames.specs.PackedFrames.{joined}
 use Rattle.method_frames.specs.NumberedRows.{declared_in}
-use Rattle.method_frames.specs.private.Lacking.{row_answers, IsUnfit}
+use Rattle.method_frames.specs.private.TypeRows.{row_answers, IsUnfit}
 use Rattle.method_frames.proofs.type_rows.TypeRows.answer_anew.Given as goal
 
 abbrev pub invariant-loop-place : goal.invariant-loop-place

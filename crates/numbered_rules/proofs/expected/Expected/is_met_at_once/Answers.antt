@@ -10,7 +10,7 @@ use Rattle.type_numbers.proofs.Decoded.{number_read}
 use Rattle.method_frames.proofs.ObjectNumbers.{object_by_type}
 use Rattle.rules.specs.Rules.{is_array, is_array_for, is_reference}
 use Rattle.numbered_rules.specs.Expected.{accepts_by, objects, own_or, IsExpected}
-use Rattle.numbered_rules.specs.private.Kinds.{holds_references, holds_references_by, is_array_by, is_array_for_by, is_reference_by}
+use Rattle.numbered_rules.specs.private.TypeParts.{holds_references, holds_references_by, is_array_by, is_array_for_by, is_reference_by}
 use Rattle.numbered_rules.proofs.AtOnce.{references_yes, object_yes, own_itself}
 use Rattle.numbered_rules.proofs.Elements.{holds_parts}
 use Rattle.numbered_rules.proofs.TypeParts.{reference_parts, array_parts, array_for_parts}
@@ -58,7 +58,7 @@ returns-then-is_reference c = λ s x e m.
     let told : c.is_reference-in-Object.result ≡ is_reference x.0 = c.is_reference-in-Object.ensures ∙ ap is_reference_by c.of-in-Object.ensures.tag ∙ reference_parts s n x.0 x.1 in
     ap (λ z. accepts_by s z (type_by s n)) c.in-Object.is
     ∙ ap₂ (type_answer s.classes) (number_read s n x.0 x.1) (number_read s c.in-Object.field-0 _ k)
-    ∙ object_yes s.classes x.0 (sym told ∙ c.if-is_reference.true) (λ o. true≢false (sym m ∙ ap not (c.is_object.ensures ∙ object_by_type s n x.0 x.1 o)))
+    ∙ object_yes s.classes x.0 (sym told ∙ c.if-is_reference.true) (λ o. true≢false (sym m ∙ ap not (c.is_uninitialized.ensures ∙ object_by_type s n x.0 x.1 o)))
 
 pub returns-in-ObjectArray : goal.returns-in-ObjectArray
 returns-in-ObjectArray c = λ s x e m.

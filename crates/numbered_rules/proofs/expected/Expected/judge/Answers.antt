@@ -8,7 +8,7 @@ use Rattle.type_numbers.proofs.Decoded.{number_read}
 use Rattle.rules.specs.Rules.{is_array, is_array_for, is_reference}
 use Rattle.numbered_rules.specs.declared.expected.Expected.TheVariants.{Object, ObjectArray}
 use Rattle.numbered_rules.specs.Expected.{accepts_by, objects, IsExpected}
-use Rattle.numbered_rules.specs.private.Kinds.{is_array_by, is_array_for_by, is_own_by, is_reference_by}
+use Rattle.numbered_rules.specs.private.TypeParts.{is_array_by, is_array_for_by, is_own_by, is_reference_by}
 use Rattle.numbered_rules.proofs.Meeting.{numbers_answer, own_or_other}
 use Rattle.numbered_rules.proofs.TypeParts.{reference_parts, array_parts, array_for_parts, own_parts}
 use Rattle.numbered_rules.proofs.expected.Expected.judge.Goals as goal

@@ -1,5 +1,5 @@
 use Rattle.std.proofs.Common.{◌∙◌, sym, subst}
-use Rattle.insn.specs.CodeResults.{code_result}
+use Rattle.insn.specs.Decoding.{code_result}
 use Rattle.printing.specs.CodeLines.{result_lines}
 use Rattle.printing.specs.Writing.{Writes}
 use Rattle.printing.proofs.Steps.{is_list, is_fault}

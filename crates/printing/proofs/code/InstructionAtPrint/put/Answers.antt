@@ -1,7 +1,7 @@
 use Rattle.std.proofs.Common.{◌≡◌, ◌∙◌, ℕ, List, [], Option, Some, None, option_map, refl, sym, ap, subst}
 use Rattle.std.specs.Option.{option_map_or}
 use Rattle.insn.specs.Instructions.{Instruction}
-use Rattle.insn.specs.CodeResults.{code_result}
+use Rattle.insn.specs.Decoding.{code_result}
 use Rattle.insn.specs.Views.{view}
 use Rattle.printing.specs.CodeLines.{line_at}
 use Rattle.printing.specs.InstructionLines.{instruction_line}

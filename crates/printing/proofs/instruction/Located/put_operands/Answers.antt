@@ -2,7 +2,7 @@ use Rattle.std.proofs.Common.{rules, ◌≡◌, ◌∙◌, ◌++◌, ℕ, ℤ, L
 use Rattle.std.proofs.lemmas.Int.{to_z-of_z}
 use Rattle.std.specs.List.{flat_map}
 use Rattle.insn.specs.Meanings.{offsets}
-use Rattle.insn.specs.Switches.{table_switch_of, default_of, low_of, high_of, table_of}
+use Rattle.insn.specs.SwitchParts.{table_switch_of, default_of, low_of, high_of, table_of}
 use Rattle.insn.specs.Views.{operands_view}
 use Rattle.printing.specs.Writing.{Writes}
 use Rattle.printing.specs.InstructionLines.{value_text, target_text, operands_text}

@@ -9,7 +9,7 @@ use Rattle.classfile.specs.Views.{class_view, code_view}
 use Rattle.classfile.proofs.MethodLaws.{method_says}
 use Rattle.insn.specs.Meanings.{Act}
 use Rattle.insn.specs.Offsets.{acts}
-use Rattle.insn.specs.CodeResults.{or_none, instructions_in}
+use Rattle.insn.specs.Decoding.{or_none, instructions_in}
 use Rattle.insn.specs.Views.{views}
 use Rattle.insn.proofs.CodeResults.{only_result}
 use Rattle.classfile.specs.WellFormed.{WellFormed}

@@ -2,7 +2,7 @@ use Rattle.std.proofs.Common.{◌≡◌, ◌∙◌, Ok, [], map, sym, ap, ap₂,
 use Rattle.std.specs.Prelude.{IfOk}
 use Rattle.std.specs.Option.{option_map}
 use Rattle.insn.specs.Offsets.{acts}
-use Rattle.insn.specs.CodeResults.{instructions_in}
+use Rattle.insn.specs.Decoding.{instructions_in}
 use Rattle.frames.specs.DeclaredFrames.{declared_frames, frame_with}
 use Rattle.frames.specs.MapViews.{entry_of}
 use Rattle.frames.specs.MarkedCode.{code_in}

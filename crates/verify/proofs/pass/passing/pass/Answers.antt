@@ -4,7 +4,7 @@ use Rattle.layout.specs.Place.{Place}
 use Rattle.insn.specs.declared.acts.Act as program
 use Rattle.insn.specs.Meanings.{Act}
 use Rattle.insn.specs.Offsets.{acts, at_offset, first_offset}
-use Rattle.insn.specs.CodeResults.{or_none, instructions_in}
+use Rattle.insn.specs.Decoding.{or_none, instructions_in}
 use Rattle.classfile.specs.Methods.{Method}
 use Rattle.insn.specs.Views.{act_located, act_view}
 use Rattle.insn.proofs.CodeResults.{result_at, whole_reading, only_result, has_instruction}

@@ -1,0 +1,8 @@
+use Rattle.std.proofs.Common.{[], refl}
+use Rattle.method_frames.proofs.MethodParts.{rows_stay, stacks_run, grown}
+use Rattle.method_frames.proofs.method_frames.MethodFrames.clear_stack.Goals as goal
+
+pub invariant_of-self : goal.invariant_of-self
+invariant_of-self g c =
+    let x = c.self.inside in
+    grown x.locals x.locals x.stacks c.clear.new.self (rows_stay x.locals x.locals refl) (stacks_run x.stacks c.clear.new.self [] c.clear.ensures) x.max_locals x.declared.items x.places.items c.self.invariant

@@ -1,7 +1,0 @@
-use Rattle.std.proofs.Common.{◌∙◌, ap, arith}
-use Rattle.rules.specs.TypingRules.{sizes}
-use Rattle.numbered_rules.proofs.Standing.{sizes_taken}
-use Rattle.numbered_rules.proofs.casts_and_arrays.sizes.Goals as goal
-
-pub returns : goal.returns
-returns c = sizes_taken c.from.result 255 (omega arith) ∙ ap sizes c.from.ensures
