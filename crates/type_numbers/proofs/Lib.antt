@@ -16,3 +16,6 @@ pub mod Tables
 pub mod DecidedTypes
 pub mod MethodReadings
 pub mod RecentPlaces
+pub mod SpelledTypes
+pub mod SpelledMethods
+pub mod PushedTypes

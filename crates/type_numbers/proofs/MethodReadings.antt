@@ -19,6 +19,7 @@ use Rattle.type_numbers.specs.declared.method_numbers.MethodNumbers.{MethodNumbe
 use Rattle.type_numbers.specs.declared.method_numbers.MethodReading.{MethodReading}
 use Rattle.type_numbers.specs.declared.method_numbers.MethodReading.TheVariants.{Unread, Nothing, Types}
 use Rattle.type_numbers.specs.Numbers.{Numbering, IsNumber, IsNumberOf, Extends}
+use Rattle.type_numbers.specs.private.Readings.{ArePushed}
 use Rattle.type_numbers.specs.MethodNumbers.{AreDescriptors, AreNumbers, AreTypes, AreTypesOf, GoesOn, IsMethodReading, arguments_in, method_in, row_of}
 use Rattle.type_numbers.proofs.FieldEntries.{number_of_stays}
 use Rattle.type_numbers.proofs.LawsOfNumbers.{number_stays}
@@ -96,17 +97,11 @@ numbers_length s (n ∷ ns) (t ∷ ts) h = let e = numbers_length s ns ts h.1 in
 numbers_length s [] (t ∷ ts) h = absurd h
 numbers_length s (n ∷ ns) [] h = absurd h
 
--- so many numbers were pushed
-pub record ArePushed (s : Numbering) (row later : List ℕ) (ts : List VerificationType) : Type 0 where
-  pub ns : List ℕ
-  pub is : later ≡ row ++ ns
-  pub numbers : AreNumbers s ns ts
-
 pub push_one : (old new : Numbering) → Extends old new → (row later : List ℕ) (ts : List VerificationType) → ArePushed old row later ts → (n : ℕ) (t : VerificationType) → IsNumber new n t → (all : List ℕ) → all ≡ later ++ n ∷ [] → ArePushed new row all (ts ++ t ∷ [])
 push_one old new more row later ts h n t k all e = record {
-  ns = h.ns ++ n ∷ [];
-  is = e ∙ ap (λ xs. xs ++ n ∷ []) h.is ∙ append_assoc row h.ns (n ∷ []);
-  numbers = numbers_more new h.ns ts n t (numbers_on old new more h.ns ts h.numbers) k;
+  numbers = h.numbers ++ n ∷ [];
+  is = e ∙ ap (λ xs. xs ++ n ∷ []) h.is ∙ append_assoc row h.numbers (n ∷ []);
+  each = numbers_more new h.numbers ts n t (numbers_on old new more h.numbers ts h.each) k;
 }
 
 -- the numbers that were pushed are those from there on
@@ -132,22 +127,8 @@ pushed_types s row later m ns e h x start count width result = record {
 pub method_read : (pool : List Entry) (index : ℕ) (text : List ℕ) → text_at pool index ≡ Ok text → method_in pool index ≡ found (method_answer false text)
 method_read pool index text e = ap (λ r. option_and_then (λ t. found (method_answer false t)) (found r)) e
 
--- one parameter more
-pub push_at : (old new : Numbering) → Extends old new → (row later : List ℕ) (xs : List FieldType) (i : ℕ) (d : FieldType) → i < length xs → ArePushed old row later (map descriptor_type (map type_of (take i xs)))
-    → (n : ℕ) (t : VerificationType) → t ≡ descriptor_type (type_of (get_or xs i d)) → IsNumber new n t → (all : List ℕ) → all ≡ later ++ n ∷ [] → ArePushed new row all (map descriptor_type (map type_of (take (i + 1) xs)))
-push_at old new more row later xs i d h before n t is k all e =
-    let grown : map descriptor_type (map type_of (take (i + 1) xs)) ≡ map descriptor_type (map type_of (take i xs)) ++ t ∷ [] =
-    ap (λ ys. map descriptor_type (map type_of ys)) (take_more xs i d h)
-    ∙ ap (map descriptor_type) (map-append type_of (take i xs) (get_or xs i d ∷ []))
-    ∙ map-append descriptor_type (map type_of (take i xs)) (type_of (get_or xs i d) ∷ [])
-    ∙ ap (λ u. map descriptor_type (map type_of (take i xs)) ++ u ∷ []) (sym is) in
-    subst (ArePushed new row all) (sym grown) (push_one old new more row later (map descriptor_type (map type_of (take i xs))) before n t k all e)
-
 pub item_at : {A : Type 0} (xs : List A) (d : A) (i j : ℕ) (r : A) → i < length xs → j ≡ i → r ≡ get_or xs j r → get_or xs i d ≡ r
 item_at xs d i j r h e is = get_or_from_slice_get xs i r d (slice_get_read xs (length xs) i r refl h (is ∙ ap (λ k. get_or xs k r) e))
-
-pub params_length : (s : Numbering) (ns : List ℕ) (xs : List FieldType) → AreNumbers s ns (map descriptor_type (map type_of xs)) → length ns ≡ length xs
-params_length s ns xs h = numbers_length s ns (map descriptor_type (map type_of xs)) h ∙ length-map (map type_of xs) descriptor_type ∙ length-map xs type_of
 
 pub descriptors_stay : (old new : Numbering) → Extends old new → (pool : List Entry) (d : DescriptorNumbers) → AreDescriptors old pool d → AreDescriptors new pool d
 descriptors_stay old new more pool d h = record {

@@ -4,3 +4,4 @@ pub mod Entries
 pub mod Deciding
 pub mod Places
 pub mod RecentPlaces
+pub mod SpelledTypes

@@ -38,8 +38,7 @@ impl ConstantTable {
         let mut constants = Vec::with_capacity(alloc, entries.len() + 1)?;
         constants.push(NamedConstant::Other)?;
         for constant in entries {
-            let named = texts.constant(pool, *constant, numbers)?;
-            constants.push(named)?;
+            texts.push(pool, *constant, numbers, &mut constants)?;
         }
         Ok(ConstantTable {
             constants,

@@ -11,6 +11,7 @@
 //! - `named_constant`: what a constant is to the instructions that name it.
 //! - `parts`: the parts of a number.
 //! - `recent_places`: the places of classes whose names were asked for a short while ago.
+//! - `spelled_types`: the types that a descriptor spells, one after the other.
 //! - `text_numbers`: the types that texts name, each text read once.
 //! - `texts`: the constants that lead to texts.
 //! - `type_numbers`: the numbers that the types of one class have.
@@ -25,6 +26,7 @@ mod method_numbers;
 mod named_constant;
 mod parts;
 mod recent_places;
+mod spelled_types;
 mod text_numbers;
 mod texts;
 mod type_numbers;

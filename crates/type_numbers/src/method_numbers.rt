@@ -1,18 +1,20 @@
 //! The numbers of the types that descriptors of methods name.
-ghost use Rattle.std.specs.Prelude.{◌≡◌, ◌+◌, ◌≤◌, ◌++◌, ℕ, false, List, Ok, length, map, option_map, IfOk, IfSome, OnOk};
+ghost use Rattle.std.specs.Prelude.{◌≡◌, ◌+◌, ◌≤◌, ◌∷◌, ℕ, false, List, Ok, Option, length, map, option_map, IfOk, OnOk};
+ghost use Rattle.names.specs.Descriptors.{FieldDescriptor, MethodDescriptor, right_parenthesis};
 ghost use Rattle.names.specs.Reading.{method_answer};
-ghost use Rattle.names.specs.Types.{method_of, type_of};
+ghost use Rattle.names.specs.Shapes.{HasShape};
 ghost use Rattle.frames.specs.Slots.{descriptor_type};
 ghost use Rattle.pool.specs.Lookups.{text_at};
-ghost use Rattle.pool.specs.ConstantMeanings.{found};
 ghost use Rattle.type_numbers.specs.Numbers.{Numbering, Extends, IsNumberOf};
-ghost use Rattle.type_numbers.specs.MethodNumbers.{AreDescriptors, AreNumbers, AreTypes, AreTypesOf, GoesOn, arguments_in, method_in, row_of};
-ghost use Rattle.type_numbers.specs.private.Readings.{HasFewUnits};
+ghost use Rattle.type_numbers.specs.MethodNumbers.{AreDescriptors, AreTypes, AreTypesOf, GoesOn, arguments_in, method_in, row_of};
+ghost use Rattle.type_numbers.specs.private.Readings.{ArePushed};
+ghost use Rattle.type_numbers.specs.private.SpelledTypes.{AreInFront, IsResult};
 
+use crate::spelled_types::type_in_front;
 use crate::type_numbers::TypeNumbers;
 use frames::held_by;
 use hierarchy::Classes;
-use names::{FieldType, MethodType, NameFault, Text, method_type};
+use names::{MethodShape, Text, method_shape};
 use pool::Pool;
 use std::alloc::{AllocError, Global};
 
@@ -43,53 +45,51 @@ pub enum MethodReading {
 /// many constants lead to it, and the types of its parameters stand in a row that all share.
 #[derive(Drop)]
 pub struct DescriptorNumbers {
-    alloc: Global,
     /// By the indices of the texts.
     readings: Vec<MethodReading>,
     arguments: Vec<u32>,
 }
 
-/// Puts the numbers of the types of parameters after a row.
+/// Puts the numbers of the types that stand in front of a `)` after a row, and returns the bytes from that on.
 fn push_numbers<'a, C: Classes>(
     row: &mut Vec<u32>,
-    parameters: &[FieldType<'a>],
+    bytes: &'a [u8],
     numbers: &mut TypeNumbers<'_, 'a, C>,
-) -> Result<(), AllocError>
+) -> Result<&'a [u8], AllocError>
     ensures kept { Extends numbers.old numbers.new }
-    ensures pushed { OnOk result ((ns : List ℕ) × (row.new.items ≡ row.old.items ++ ns)
-        × AreNumbers numbers.new ns (map descriptor_type (map type_of parameters.now))) }
+    ensures pushed { IfOk result (λ end. (types : List FieldDescriptor) (rest : List ℕ)
+        → AreInFront bytes.now types rest → (end.now ≡ right_parenthesis ∷ rest)
+        × ArePushed numbers.new row.old.items row.new.items (map descriptor_type types)) }
 {
-    for parameter in parameters {
-        let number = numbers.number(&held_by(parameter))?;
-        row.push(number)?;
+    let mut rest = bytes;
+    'types: loop {
+        match type_in_front(rest) {
+            None => return Ok(rest),
+            Some((parameter, behind)) => {
+                let number = numbers.number(&held_by(&parameter))?;
+                row.push(number)?;
+                rest = behind;
+            }
+        }
     }
-    Ok(())
 }
 
-/// The number of the type of a result, if there is one.
+/// The number of the type of a result, if the bytes after the `)` name one.
 fn result_number<'a, C: Classes>(
-    returned: Option<FieldType<'a>>,
+    has_result: bool,
+    bytes: &'a [u8],
     numbers: &mut TypeNumbers<'_, 'a, C>,
 ) -> Result<Option<u32>, AllocError>
     ensures kept { Extends numbers.old numbers.new }
-    ensures number { IfOk result (λ n. IsNumberOf numbers.new n
-        (option_map descriptor_type (option_map type_of returned.entry))) }
+    ensures number { IfOk result (λ n. (t : Option FieldDescriptor) → IsResult has_result bytes.now t
+        → IsNumberOf numbers.new n (option_map descriptor_type t)) }
 {
-    match returned {
-        None => Ok(None),
-        Some(t) => Ok(Some(numbers.number(&held_by(&t))?)),
+    if !has_result {
+        return Ok(None);
     }
-}
-
-/// The types that a text names as the descriptor of a method without a receiver.
-fn method_named<'a>(alloc: Global, text: Text<'a>) -> Result<Option<MethodType<'a>>, AllocError>
-    ensures named { IfOk result (λ m. option_map method_of m ≡ found (method_answer false text.entry.bytes.now)) }
-    ensures few { IfOk result (λ m. IfSome m HasFewUnits) }
-{
-    match method_type(alloc, text, false) {
-        Ok(method) => Ok(Some(method)),
-        Err(NameFault::OutOfMemory) => Err(AllocError),
-        Err(_) => Ok(None),
+    match type_in_front(bytes) {
+        None => Ok(None),
+        Some((t, _)) => Ok(Some(numbers.number(&held_by(&t))?)),
     }
 }
 
@@ -100,37 +100,42 @@ impl DescriptorNumbers {
     {
         let mut readings = Vec::new(alloc);
         readings.resize(pool.constants().len() + 1, MethodReading::Unread)?;
+        let arguments = Vec::with_capacity(alloc, pool.constants().len() / 4)?;
         Ok(DescriptorNumbers {
-            alloc,
             readings,
-            arguments: Vec::new(alloc),
+            arguments,
         })
     }
 
-    /// The numbers of the types of a method, its arguments after those of all others.
+    /// The numbers of the types of a method by its descriptor, its arguments after those of all others.
     fn add<'a, C: Classes>(
         &mut self,
-        method: &MethodType<'a>,
+        bytes: &'a [u8],
+        shape: MethodShape,
         numbers: &mut TypeNumbers<'_, 'a, C>,
     ) -> Result<MethodNumbers, AllocError>
-        requires { HasFewUnits method.now }
+        requires { HasShape false bytes.now shape }
         ensures kept { Extends numbers.old numbers.new }
         ensures readings { self.new.readings ≡ self.old.readings }
         ensures grown { OnOk result (GoesOn (row_of self.old) (row_of self.new)) }
-        ensures types { IfOk result (λ x. AreTypes numbers.new (row_of self.new) x (method_of method.now)) }
+        ensures types { IfOk result (λ x. (m : MethodDescriptor) → method_answer false bytes.now ≡ Ok m
+            → AreTypes numbers.new (row_of self.new) x m) }
     {
         let start = self.arguments.len();
-        push_numbers(&mut self.arguments, &method.params, numbers)?;
-        let result = result_number(method.result, numbers)?;
+        let (_, inside) = bytes.split_at(1);
+        let end = push_numbers(&mut self.arguments, inside, numbers)?;
+        let (_, behind) = end.split_at(1);
+        let result = result_number(shape.has_result, behind, numbers)?;
         Ok(MethodNumbers {
             start,
-            count: method.params.len() as u8,
-            width: method.width(false) as u8,
+            count: (self.arguments.len() - start) as u8,
+            width: shape.units as u8,
             result,
         })
     }
 
     /// Reads a text and notes what it names.
+    #[inline(never)]
     fn read<'a, C: Classes>(
         &mut self,
         _pool: &Pool<'a>,
@@ -145,11 +150,11 @@ impl DescriptorNumbers {
         ensures grown { OnOk result (GoesOn (row_of self.old) (row_of self.new)) }
         ensures types { IfOk result (λ x. AreTypesOf numbers.new (row_of self.new) x (method_in _pool.now index)) }
     {
-        let Some(method) = method_named(self.alloc, text)? else {
+        let Ok(shape) = method_shape(text, false) else {
             self.readings[usize::from(index)] = MethodReading::Nothing;
             return Ok(None);
         };
-        let types = self.add(&method, numbers)?;
+        let types = self.add(text.bytes(), shape, numbers)?;
         self.readings[usize::from(index)] = MethodReading::Types(types);
         Ok(Some(types))
     }

@@ -6,7 +6,7 @@ ghost use Rattle.pool.specs.Views.{view};
 ghost use Rattle.type_numbers.specs.declared.text_numbers.Form.TheVariants.{ClassName, FieldDescriptor};
 ghost use Rattle.type_numbers.specs.MethodNumbers.{AreTypesOf, GoesOn, method_in, row_of};
 ghost use Rattle.type_numbers.specs.Numbers.{Numbering, Extends, IsNumberOf};
-ghost use Rattle.type_numbers.specs.private.Entries.{IsEntryDescribed, class_as, descriptor_index, dynamic_of, field_of, is_init_named, is_special_named, loaded_as, member_name, member_texts, method_of, names_nothing, site_of};
+ghost use Rattle.type_numbers.specs.private.Entries.{IsEntryDescribed, IsPushed, class_as, descriptor_index, dynamic_of, field_of, is_init_named, is_special_named, loaded_as, member_name, member_texts, method_of, names_nothing, site_of};
 ghost use Rattle.type_numbers.specs.private.Readings.{AreTexts, shared_row, type_in};
 
 use crate::loaded_numbers::LoadedNumbers;
@@ -385,24 +385,28 @@ impl Texts {
         }
     }
 
-    /// A constant of the pool as instructions name it. The only refusal is 1, where memory runs out.
-    pub fn constant<'a, C: Classes>(
+    /// Puts a constant of the pool, as instructions name it, after a row. The only refusal is 1, where memory runs out.
+    pub fn push<'a, C: Classes>(
         &mut self,
         pool: &Pool<'a>,
         constant: Constant<'a>,
         numbers: &mut TypeNumbers<'_, 'a, C>,
-    ) -> Result<NamedConstant, AllocError>
+        row: &mut Vec<NamedConstant>,
+    ) -> Result<(), AllocError>
         requires { AreTexts numbers.old pool.now self.old }
         ensures kept { Extends numbers.old numbers.new }
         ensures texts { OnOk result (AreTexts numbers.new pool.now self.new) }
         ensures grown { OnOk result (GoesOn (shared_row self.old) (shared_row self.new)) }
-        ensures described { IfOk result (IsEntryDescribed numbers.new (shared_row self.new) pool.now
-            (view constant.entry)) }
+        ensures pushed { OnOk result (IsPushed numbers.new (shared_row self.new) pool.now (view constant.entry)
+            row.old.items row.new.items) }
     {
         if names_nothing(constant) {
-            return Ok(NamedConstant::Other);
+            row.push(NamedConstant::Other)?;
+            return Ok(());
         }
-        self.naming(pool, constant, numbers)
+        let named = self.naming(pool, constant, numbers)?;
+        row.push(named)?;
+        Ok(())
     }
 
     /// The texts as the descriptors of methods.

@@ -1,5 +1,5 @@
 -- The entries of a pool as instructions name them.
-use Rattle.std.specs.Prelude.{ℕ, bytes_eq, ◌/◌, ◌%◌, nat_lt, if◌then◌else◌, Bool, true, false, List, Option, Some, None}
+use Rattle.std.specs.Prelude.{◌≡◌, ◌∷◌, ◌++◌, [], ℕ, bytes_eq, ◌/◌, ◌%◌, nat_lt, if◌then◌else◌, Bool, true, false, List, Option, Some, None}
 use Rattle.std.specs.Option.{option_and_then, option_map_or}
 use Rattle.names.specs.Descriptors.{FieldDescriptor}
 use Rattle.names.specs.Names.{less_than}
@@ -56,6 +56,12 @@ meaning_by pool e = record {
 
 abbrev pub IsEntryDescribed : Numbering → List ℕ → List Entry → Entry → NamedConstant → Type 0
 IsEntryDescribed s row pool e c = IsDescribed s row (meaning_by pool e) c
+
+-- a row goes on with a constant, which is this entry
+pub record IsPushed (s : Numbering) (row : List ℕ) (pool : List Entry) (e : Entry) (old new : List NamedConstant) : Type 0 where
+  pub named : NamedConstant
+  pub is : new ≡ old ++ named ∷ []
+  pub described : IsEntryDescribed s row pool e named
 
 -- a constant that has no meaning for instructions: a text, or the name and the descriptor of a member
 abbrev pub names_nothing : Constant → Bool

@@ -1,12 +1,9 @@
 -- The types that texts name, as far as they were read.
-use Rattle.std.specs.Prelude.{◌≡◌, ◌≤◌, ℕ, ◌+◌, false, vec_len, List, Option, Some, None, option_map, slice_index_or, length}
+use Rattle.std.specs.Prelude.{◌≡◌, ℕ, ◌+◌, ◌++◌, List, Option, Some, None, option_map, slice_index_or, length}
 use Rattle.std.specs.Option.{option_and_then}
-use Rattle.names.specs.declared.descriptor.MethodType.{MethodType}
-use Rattle.names.specs.Descriptors.{method_width}
 use Rattle.names.specs.Reading.{field_answer}
 use Rattle.names.specs.ReferenceTypes.{reference_type}
 use Rattle.names.specs.StandardNames.{string_name, class_name, method_type_name, method_handle_name}
-use Rattle.names.specs.Types.{method_of}
 use Rattle.pool.specs.Entries.{Entry}
 use Rattle.pool.specs.Lookups.{text_at}
 use Rattle.pool.specs.ConstantMeanings.{found}
@@ -20,7 +17,7 @@ use Rattle.type_numbers.specs.declared.text_numbers.Reading.TheVariants.{Unread,
 use Rattle.type_numbers.specs.declared.text_numbers.TextNumbers.{TextNumbers}
 use Rattle.type_numbers.specs.declared.texts.Texts.{Texts}
 use Rattle.type_numbers.specs.Numbers.{Numbering, IsNumber}
-use Rattle.type_numbers.specs.MethodNumbers.{AreDescriptors, row_of}
+use Rattle.type_numbers.specs.MethodNumbers.{AreDescriptors, AreNumbers, row_of}
 
 -- the type that a text names: as that of a Class constant, or as the descriptor of a field
 abbrev pub text_type : Form → List ℕ → Option VerificationType
@@ -47,10 +44,11 @@ pub record AreReadings (s : Numbering) (pool : List Entry) (t : TextNumbers) : T
   pub long : length t.readings.items ≡ length pool + 1
   pub read : (index : ℕ) → IsReading s (type_in t.form pool index) (reading_in t.readings.items index)
 
--- the parameters of a method are at most 255, and take at most 255 units
-pub record HasFewUnits (m : MethodType) : Type 0 where
-  pub params : vec_len m.params ≤ 255
-  pub units : method_width (method_of m) false ≤ 255
+-- numbers of these types were put after a row
+pub record ArePushed (s : Numbering) (row later : List ℕ) (types : List VerificationType) : Type 0 where
+  pub numbers : List ℕ
+  pub is : later ≡ row ++ numbers
+  pub each : AreNumbers s numbers types
 
 -- the row that the descriptors of methods share
 abbrev pub shared_row : Texts → List ℕ

@@ -14,23 +14,21 @@ loop-constant-init g c = record {
   kept = c.new.ensures.kept;
 }
 
-pub returns-in_err-named-clause-kept : goal.returns-in_err-named-clause-kept
-returns-in_err-named-clause-kept g c = extends_on c.args.numbers.now c.loop-constant.numbers c.constant.new.numbers c.loop-constant.invariant.kept c.constant.ensures.kept
-
 pub returns-in_err-push-2-clause-kept : goal.returns-in_err-push-2-clause-kept
-returns-in_err-push-2-clause-kept g c = extends_on c.args.numbers.now c.loop-constant.numbers c.constant.new.numbers c.loop-constant.invariant.kept c.constant.ensures.kept
+returns-in_err-push-2-clause-kept g c = extends_on c.args.numbers.now c.loop-constant.numbers c.push-in-loop-constant.new.numbers c.loop-constant.invariant.kept c.push-in-loop-constant.ensures.kept
 
 pub loop-constant-preserved : goal.loop-constant-preserved
 loop-constant-preserved g c =
     let pool = c.args.pool.now in
     let item = c.constant-item.result in
     let at = entry_here c.constants-entries.result.now pool c.loop-constant.constant-index item c.constants-entries.ensures c.constant-item.is c.loop-constant-test.true in
+    let step = c.push-in-loop-constant in
+    let ok = c.in_ok-push-2.ensures in
     record {
-      filled = fill_one pool c.loop-constant.constants.items c.loop-constant.constant-index c.loop-constant.numbers c.constant.new.numbers c.constant.ensures.kept (shared_row c.loop-constant.texts) (shared_row c.constant.new.self)
-          c.in_ok-named.ensures.grown c.loop-constant.invariant.filled
-          c.push-in-loop-constant.new.self.items c.in_ok-named.named (view item) c.in_ok-push-2.ensures.items at c.in_ok-named.ensures.described;
-      texts = c.in_ok-named.ensures.texts;
-      kept = extends_on c.args.numbers.now c.loop-constant.numbers c.constant.new.numbers c.loop-constant.invariant.kept c.constant.ensures.kept;
+      filled = fill_one pool c.loop-constant.constants.items c.loop-constant.constant-index c.loop-constant.numbers step.new.numbers step.ensures.kept (shared_row c.loop-constant.texts) (shared_row step.new.self)
+          ok.grown c.loop-constant.invariant.filled step.new.row.items ok.pushed.named (view item) ok.pushed.is at ok.pushed.described;
+      texts = ok.texts;
+      kept = extends_on c.args.numbers.now c.loop-constant.numbers step.new.numbers c.loop-constant.invariant.kept step.ensures.kept;
     }
 
 pub returns-clause-described : goal.returns-clause-described

@@ -11,5 +11,5 @@ returns c = λ s.
     let unread = filled Unread c.new-readings.result.items c.resize.new.self.items _ _ _ c.new-readings.ensures.items c.resize.ensures.items in
     record {
       long = search rules ∙ ap (λ n. n + 1) (sym (length-map c.constants.result.now view) ∙ ap length c.constants.ensures);
-      read = λ k. subst (IsMethodReading s c.new.result.items (method_in c.args.pool.now k)) (sym (unread k)) tt;
+      read = λ k. subst (IsMethodReading s c.in_ok-arguments.arguments.items (method_in c.args.pool.now k)) (sym (unread k)) tt;
     }

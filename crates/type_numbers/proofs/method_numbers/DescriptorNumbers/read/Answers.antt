@@ -1,7 +1,7 @@
-use Rattle.std.proofs.Common.{◌∙◌, ap, sym, subst, ◌≡◌, ◌<◌, length, List, Some, get_or, arith}
+use Rattle.std.proofs.Common.{false, ◌∙◌, ap, sym, subst, ◌≡◌, ◌<◌, length, List, Some, get_or, arith}
 use Rattle.std.proofs.lemmas.List.{length-set}
-use Rattle.std.specs.Option.{option_map}
-use Rattle.names.specs.Types.{method_of}
+use Rattle.names.specs.Reading.{method_answer}
+use Rattle.pool.specs.ConstantMeanings.{found}
 use Rattle.type_numbers.specs.declared.method_numbers.MethodReading.{MethodReading}
 use Rattle.type_numbers.specs.declared.method_numbers.MethodReading.TheVariants.{Unread, Types}
 use Rattle.type_numbers.specs.MethodNumbers.{AreTypesOf, IsMethodReading, method_in, row_of}
@@ -34,12 +34,18 @@ returns-clause-readings g c =
     let within = text_within pool c.args.index c.args.text.bytes.now c.requires.text in
     let count : length items ≡ length c.args.self.now.readings.items = ap length same in
     let h : i < length items = omega (arith, within, c.requires.read.long, c.from-2.ensures, count) in
-    let some : method_in pool i ≡ Some (method_of c.in-Some.method) =
-    ap (λ k. method_in pool k) c.from-2.ensures ∙ method_read pool c.args.index c.args.text.bytes.now c.requires.text ∙ sym c.in_ok-method.ensures.named ∙ ap (option_map method_of) c.in-Some.is in
+    let some : method_in pool i ≡ Some c.in-Ok.ensures.type =
+    ap (λ k. method_in pool k) c.from-2.ensures ∙ method_read pool c.args.index c.args.text.bytes.now c.requires.text ∙ ap found c.in-Ok.ensures.named in
     record {
       long = length-set items i (Types x) ∙ count ∙ c.requires.read.long;
       read = all_noted (λ k r. IsMethodReading s later (method_in pool k) r) items Unread i (Types x) h
           (λ k. subst (λ (rs : List MethodReading). IsMethodReading s later (method_in pool k) (get_or rs k Unread)) (sym same)
           (reading_on old s c.add.ensures.kept row later c.in_ok-types.ensures.grown (method_in pool k) (get_or c.args.self.now.readings.items k Unread) (c.requires.read.read k)))
-          (subst (AreTypesOf s later (Some x)) (sym some) c.in_ok-types.ensures.types);
+          (subst (AreTypesOf s later (Some x)) (sym some) (c.in_ok-types.ensures.types c.in-Ok.ensures.type (ap (method_answer false) c.bytes.ensures ∙ c.in-Ok.ensures.named)));
     }
+
+pub returns-clause-types : goal.returns-clause-types
+returns-clause-types g c =
+    let s = c.add.new.numbers in
+    let some = method_read c.args._pool.now c.args.index c.args.text.bytes.now c.requires.text ∙ ap found c.in-Ok.ensures.named in
+    subst (AreTypesOf s (row_of c.add.new.self) (Some c.in_ok-types.types)) (sym some) (c.in_ok-types.ensures.types c.in-Ok.ensures.type (ap (method_answer false) c.bytes.ensures ∙ c.in-Ok.ensures.named))
