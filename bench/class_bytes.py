@@ -10,7 +10,7 @@ def utf8(text):
 
 
 def class_file(methods, names=(), other=None):
-    """A class K under java/lang/Object with these methods. Index 5 is `()V`, 6 `Code`, 7 `StackMapTable`, and from 8 on come the names; behind
+    """A class K under java/lang/Object with these methods. Index 5 is `()V`, 6 `Code`, 7 `StackMapTable`, and from 8 on come the names; after
     them comes the name of another class, if there is one, and then that class."""
     pool = b"\x07\x00\x02" + utf8(b"K") + b"\x07\x00\x04" + utf8(b"java/lang/Object") + utf8(b"()V") + utf8(b"Code") + utf8(b"StackMapTable")
     texts = [*names, *([other] if other else [])]

@@ -8,7 +8,7 @@ from long_texts import indices, utf8
 ICONST_0, DUP, DUP2, POP, RETURN, GOTO_W = b"\x03", b"\x59", b"\x5c", b"\x57", b"\xb1", b"\xc8"
 ASTORE, ALOAD = b"\xc4\x3a", b"\xc4\x19"  # behind wide, with two bytes for the local
 STATIC = 9
-# The constructor of K stands at 8, and behind what it leads to the name of the method and that of a stack map.
+# The constructor of K stands at 8, and after what it leads to the name of the method and that of a stack map.
 CONSTRUCTOR, NAME, MAP = 8, 11, 12
 NAMED = [indices(10, 1, 9), indices(12, 10, 5), utf8(b"<init>"), utf8(b"m"), utf8(b"StackMapTable")]
 NEW, INVOKESPECIAL = b"\xbb\x00\x01", b"\xb7" + struct.pack(">H", CONSTRUCTOR)
@@ -24,7 +24,7 @@ def in_class(code, max_stack, max_locals, entries=()):
 
 
 def made_above():
-    """A stack map declares the ints, behind a `goto_w` to a return at the end."""
+    """A stack map declares the ints, after a `goto_w` to a return at the end."""
     code = (NEW + DUP + INVOKESPECIAL + POP) * OBJECTS
     over = GOTO_W + struct.pack(">i", 6 + len(code)) + code + RETURN + RETURN
     return in_class(over, DEPTH + 2, 0, [full_frame(5, b"", b"\x01" * DEPTH), full_frame(len(code), b"")])

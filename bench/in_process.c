@@ -37,7 +37,7 @@ static double now(void) {
     return t.tv_sec + t.tv_nsec / 1e9;
 }
 
-/* The files of a list of names on standard input, one behind the other. */
+/* The files of a list of names on standard input, one after the other. */
 int main(void) {
     char name[4096];
     size_t length = 0, room = 1 << 24, count = 0, places = 1 << 16;

@@ -34,7 +34,7 @@ def code_of(method):
 
 
 def class_file(named, others, methods, fields=(), name=b"K"):
-    """A class with the constant that is named, with others behind it, and with these methods and fields."""
+    """A class with the constant that is named, with others after it, and with these methods and fields."""
     table = [HEAD[0], utf8(name), *HEAD[2:], *named, *others]
     members = b"".join(struct.pack(">HHHH", 0, name, descriptor, 0) for name, descriptor in fields)
     return (

@@ -13,7 +13,7 @@ def indices(tag, *numbers):
     return bytes([tag]) + b"".join(struct.pack(">H", it) for it in numbers)
 
 
-# behind the class's name and its superclass's: at 5 a class's name, at 6 a field's and at 7 a method's descriptor, each of 65,535 bytes or nearly so
+# after the class's name and its superclass's: at 5 a class's name, at 6 a field's and at 7 a method's descriptor, each of 65,535 bytes or nearly so
 HEAD = [indices(7, 2), utf8(b"K"), indices(7, 4), utf8(b"java/lang/Object")]
 TEXTS = [
     utf8(b"a" * LONGEST),
@@ -25,7 +25,7 @@ BEHIND = len(HEAD) + len(TEXTS) + 1
 
 
 def class_file(constants, fields=()):
-    """A class with these constants behind the texts, and fields by their indices."""
+    """A class with these constants after the texts, and fields by their indices."""
     table = [*HEAD, *TEXTS, *constants]
     members = b"".join(struct.pack(">HHHH", 0, name, descriptor, 0) for name, descriptor in fields)
     return (

@@ -12,7 +12,7 @@ TOP_ON_STACK, APPEND_INT, CHOP_ONE = b"\x40\x00", b"\xfc\x00\x00\x01", b"\xfa\x0
 
 
 def full_frame(delta, first, locals_given, stack_given=b""):
-    """An entry that gives so many locals: this type, and ints behind it."""
+    """An entry that gives so many locals: this type, and ints after it."""
     return b"\xff" + struct.pack(">HH", delta, locals_given) + first + INT * (locals_given - 1) + struct.pack(">H", len(stack_given)) + stack_given
 
 

@@ -154,7 +154,7 @@ class Verifier:
         return int(any(REFUSED.fullmatch(it) for it in lines if " refused " in it))
 
     def told(self, lines, files):
-        """The lines, with the superclass that is absent behind a 42."""
+        """The lines, with the superclass that is absent after a 42."""
         for line in lines:
             if line.startswith("hierarchy refused 42 "):
                 lacking = next((self.names(it)[1] for it in files if self.names(it)[0] == line[21:]), None)
@@ -163,7 +163,7 @@ class Verifier:
 
     @staticmethod
     def opened(line, files):
-        """The line, with the name of the file behind its number."""
+        """The line, with the name of the file after its number."""
         it = re.fullmatch(r"file (\d+) cannot be opened", line)
         return f"{line}: {files[int(it[1]) - 1]}" if it else line
 

@@ -236,7 +236,7 @@ def sized(stream, is_last):
 
 
 def skipped(stream, indices):
-    """A table of attributes behind so many numbers."""
+    """A table of attributes after so many numbers."""
     for _ in range(indices):
         stream.part(2)
     for _ in range(stream.number(2)):

@@ -12,7 +12,7 @@ FILES = {"K": K.data(), "O": OBJECT_CLASS, "A": named("A").data(), "-a": K.data(
 TOOLCHAIN = re.search(r"`(logic \w+ \(rattle-kit[^)]*\))`", (TOP / "README.md").read_text()).group(1)
 MISSING = "error: the following required arguments were not provided:"
 
-# The words behind the program's name, the first line that is printed, and the status.
+# The words after the program's name, the first line that is printed, and the status.
 LINES = [
     ("check K", "ok", 0),
     ("check -- -a", "ok", 0),

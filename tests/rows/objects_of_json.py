@@ -6,7 +6,7 @@ from dataclasses import replace
 from tools.assembler import class_info, member, name_and_type, utf8
 from tools.class_k import K, OBJECT_CLASS, code_f, with_constant
 
-# Behind the number of a refusal: what stands in the line, and the fields that it is.
+# After the number of a refusal: what stands in the line, and the fields that it is.
 ENDINGS = [
     (r"", []),
     (r" at (\d+)", ["at"]),
@@ -31,7 +31,7 @@ def unescaped(name):
 
 
 def ending(kind, number, rest):
-    """The fields behind the word `refused`."""
+    """The fields after the word `refused`."""
     yield "number", int(number)
     if place := re.fullmatch(r" (pool|class|field|method)(?: (\d+))?", rest):
         if kind != "hierarchy":
@@ -136,7 +136,7 @@ def part_of_bytes(lines):
 
 
 def explained(lines):
-    """The fields that the lines below a refusal are; a second sentence is the one on the fault behind the number."""
+    """The fields that the lines below a refusal are; a second sentence is the one on the fault after the number."""
     if int(lines[0].split()[0]) < 20:
         yield from explained_line(lines[0])
         yield from part_of_bytes(lines[1:])

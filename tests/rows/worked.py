@@ -49,7 +49,7 @@ FILES = (
     ("K", "check", [BYTES], "ok"),
     ("K without its last byte", "check", [BYTES[:96]], "refused 2 at 95"),
     ("K and one byte more", "check", [BYTES + b"\x00"], "refused 13 at 97"),
-    # the outline is read first, and ends early where the longer attribute takes a byte of what is behind it
+    # the outline is read first, and ends early where the longer attribute takes a byte of what is after it
     ("K whose Code attribute is longer than its parts", "check", [changed((81, 0x0E))], "refused 2 at 96"),
     ("K whose Code attribute is shorter", "check", [changed((81, 0x0C))], "refused 12 at 76"),
     ("K with a tag of no constant", "check", [changed((10, 2))], "refused 7 at 10 tag 2"),

@@ -31,7 +31,7 @@ new newarray anewarray arraylength athrow checkcast instanceof monitorenter moni
 ifnull ifnonnull goto_w jsr_w
 """.split()
 
-# The operands behind an opcode, as `struct` spells them: small letters are signed.
+# The operands after an opcode, as `struct` spells them: small letters are signed.
 FORMS = {
     **dict.fromkeys(["bipush"], "b"),
     **dict.fromkeys(["sipush"], "h"),
@@ -45,12 +45,12 @@ FORMS = {
     "invokedynamic": "HBB",
     "multianewarray": "HB",
 }
-# Which instructions `wide` may modify, and what then stands behind their opcode.
+# Which instructions `wide` may modify, and what then stands after their opcode.
 WIDE = {**{name: "H" for name, form in FORMS.items() if form == "B" and name not in ("ldc", "newarray")}, "iinc": "Hh"}
 
 
 def instruction(text):
-    """The bytes of an instruction with its operands; behind `bytes` stand bytes by their hexadecimal digits."""
+    """The bytes of an instruction with its operands; after `bytes` stand bytes by their hexadecimal digits."""
     name, *operands = text.split()
     if name == "bytes":
         return bytes.fromhex("".join(operands))

@@ -35,7 +35,7 @@ OBJECT_CLASS = replace(
 
 
 def with_constants(*more):
-    """K with more constants behind its own, from 8 on."""
+    """K with more constants after its own, from 8 on."""
     return replace(K, constants=CONSTANTS + list(more))
 
 

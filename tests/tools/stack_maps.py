@@ -31,7 +31,7 @@ def types_of(text, class_index):
 
 
 def frame_of(text, delta, class_index):
-    """The bytes of a frame, whose offset lies so far behind the place behind the frame before it."""
+    """The bytes of a frame, whose offset lies so far after the place after the frame before it."""
     form, _, rest = text.partition(" ")
     is_extended = form == "extended"
     if is_extended:
@@ -86,7 +86,7 @@ class Reader:
         return ", ".join([self.type() for _ in range(count)])
 
     def frame(self):
-        """The offset of a frame behind the place behind the one before it, and its words."""
+        """The offset of a frame after the place after the one before it, and its words."""
         tag = self.number(1)
         if tag < 128:
             return tag % 64, f"same1 {self.type()}" if tag >= 64 else "same"

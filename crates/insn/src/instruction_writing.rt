@@ -172,7 +172,7 @@ fn put_ints(out: &mut Vec<u8>, first: i32, second: i32) -> Result<(), WriteFault
 
 /// Appends what both switches begin with: the second number is the low bound, or how many pairs
 /// there are.
-#[tactic(auto, unfolding(crate::specs::Spellings::switch_head))]
+#[tactic(auto, unfolding(crate::specs::WrittenInstructions::switch_head))]
 fn put_switch_head(
     out: &mut Vec<u8>,
     padding: &[u8],
@@ -225,7 +225,7 @@ fn put_wide_increment(
 }
 
 /// Appends what stands after `tableswitch`.
-#[tactic(auto, unfolding(crate::specs::Spellings::operands_bytes))]
+#[tactic(auto, unfolding(crate::specs::WrittenInstructions::operands_bytes))]
 fn put_table_switch(out: &mut Vec<u8>, switch: TableSwitch<'_>) -> Result<(), WriteFault>
     ensures { Appends (operands_bytes (table_switch_view switch.entry)) out.old.items out.new.items result }
 {
@@ -234,7 +234,7 @@ fn put_table_switch(out: &mut Vec<u8>, switch: TableSwitch<'_>) -> Result<(), Wr
 }
 
 /// Appends what stands after `lookupswitch`.
-#[tactic(auto, unfolding(crate::specs::Spellings::operands_bytes))]
+#[tactic(auto, unfolding(crate::specs::WrittenInstructions::operands_bytes))]
 fn put_lookup_switch(out: &mut Vec<u8>, switch: LookupSwitch<'_>) -> Result<(), WriteFault>
     ensures { Appends (operands_bytes (lookup_switch_view switch.entry)) out.old.items out.new.items result }
 {
@@ -243,7 +243,7 @@ fn put_lookup_switch(out: &mut Vec<u8>, switch: LookupSwitch<'_>) -> Result<(), 
 }
 
 /// Appends what stands after an opcode.
-#[tactic(auto, unfolding(crate::specs::Spellings::operands_bytes))]
+#[tactic(auto, unfolding(crate::specs::WrittenInstructions::operands_bytes))]
 fn put_operands(out: &mut Vec<u8>, operands: Operands<'_>) -> Result<(), WriteFault>
     requires { (at : ℕ) × (agrees at (operands_view operands) ≡ true) }
     ensures bytes { Appends (operands_bytes (operands_view operands.entry)) out.old.items out.new.items result }

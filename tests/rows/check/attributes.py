@@ -5,7 +5,7 @@ from model.attribute_table import rows
 from tools.assembler import attribute, integer, listed, member, u2, utf8
 from tools.class_k import CONSTANTS, K, code_f, method_f
 
-# The index of the attribute's name; behind it stand an Integer at 9, the text `I` at 10 and the name of Record at 11.
+# The index of the attribute's name; after it stand an Integer at 9, the text `I` at 10 and the name of Record at 11.
 NAME, RECORD = 8, 11
 # By the letters of attribute_table.py: an index or a number that may stand there, and one of another kind.
 SOUND = {"n": 7, "u": 2, "U": 4, "v": 9, "c": 1, "C": 3}
@@ -44,7 +44,7 @@ def refused_12(place, name, body):
 
 
 def lengths(place, name, body):
-    """The attribute cut behind each of its numbers, in its last one, and longer."""
+    """The attribute cut after each of its numbers, in its last one, and longer."""
     for size in (*range(0, len(body), 2), len(body) - 1, len(body) + 1, len(body) + 2):
         if 0 <= size != len(body):
             yield f"{name} of {size} bytes in a {place}", *refused_12(place, name, (body + b"\0\0")[:size])

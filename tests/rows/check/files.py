@@ -66,7 +66,7 @@ def layouts():
 
 
 def pools():
-    """Constant pools behind magic and version, and where they are at fault."""
+    """Constant pools after magic and version, and where they are at fault."""
     for start, line in (
         ("0000", "refused 16 at 8"),
         ("0002 02", "refused 7 at 10 tag 2"),

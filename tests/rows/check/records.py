@@ -4,7 +4,7 @@ from dataclasses import replace
 from tools.assembler import attribute, listed, long, u2, utf8
 from tools.class_k import CONSTANTS, K
 
-# The index of the name of the class's attribute, and behind it that of `Signature` and a Long at 10, so that nothing stands at 11.
+# The index of the name of the class's attribute, and after it that of `Signature` and a Long at 10, so that nothing stands at 11.
 NAME, SIGNATURE, NOTHING = 8, 9, 11
 OF_K = "method 0009 f ()V\n  stack 0 locals 0\n  0 return\n"
 
@@ -77,7 +77,7 @@ def records():
 
 
 def shown():
-    """A name for each file, its bytes, and the lines of `show` behind the first two."""
+    """A name for each file, its bytes, and the lines of `show` after the first two."""
     two = [record(component(5, 6), component(2, 4))]
     yield "a record", with_attributes("Record", *two), "component f ()V\ncomponent K java/lang/Object\n"
     yield "a record of no components", with_attributes("Record", record()), ""

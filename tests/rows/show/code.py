@@ -60,7 +60,7 @@ def refused(number, at):
 
 
 def shortest():
-    """Each opcode with zeros behind it, in its shortest form and in no shorter one; `wide` stands alone below."""
+    """Each opcode with zeros after it, in its shortest form and in no shorter one; `wide` stands alone below."""
     for number, name in enumerate(MNEMONICS):
         form = FORMS.get(name, "")
         code = bytes([number]) + bytes(SWITCHES.get(name, sum(SIZES[it] for it in form)))
@@ -73,7 +73,7 @@ def shortest():
 
 
 def behind_wide():
-    """Each byte behind `wide`."""
+    """Each byte after `wide`."""
     for number in range(256):
         name = MNEMONICS[number] if number < len(MNEMONICS) else None
         code = bytes([0xC4, number, 1, 2, 0xFF, 0xFE])

@@ -18,7 +18,7 @@ USES = (
 )
 REFUSED = "refused 90 at 0"
 # The attributes of the class: the entries of each, as Constants.bootstraps takes them, with `+` between attributes and
-# bytes in brackets behind entries; the number that is asked, and the verdict of each use with --dynamic.
+# bytes in brackets after entries; the number that is asked, and the verdict of each use with --dynamic.
 ROWS = f"""
 # the class has exactly one such attribute
 no attribute | 0 | {REFUSED}
@@ -126,7 +126,7 @@ handle + handle | ()Ljava/lang/invoke/MethodHandle; 1 0 | ldc [handle]; areturn 
 """
 
 # The attributes; descriptor, max_stack and max_locals; code; the lines of `explain --dynamic`. The frame before the
-# instruction is that of a static method behind the instructions in front of it.
+# instruction is that of a static method after the instructions in front of it.
 EXPLAINED = """
 no attribute | ()V 0 0 | invokedynamic [site f ()V] 0 0; return | method f ()V refused 90 at 0 | SENTENCE | stack 0 locals 0 | 0 invokedynamic #11 | constant 11 InvokeDynamic 0 #10 f ()V | locals | stack
 handle | (I)V 3 1 | iload_0; ldc2_w [computed J 1]; pop2; pop; return | method f (I)V refused 90 at 1 | SENTENCE | stack 3 locals 1 | 1 ldc2_w #11 | constant 11 Dynamic 1 #10 d J | locals int | stack int

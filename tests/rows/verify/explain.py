@@ -33,7 +33,7 @@ method f ()V refused 79 at 1 fault 31 | 79 BadCode: the code is refused at this 
 method f (LA;)V refused 82 at 1 | 82 ProtectedMember: a protected member of another package is used on an object that is not assignable to the current class | stack 1 locals 1 | 1 invokevirtual #13 | constant 13 Methodref #9 #12 java/lang/Object clone ()Ljava/lang/Object; | locals Class A | stack Class A
 """
 
-# For a file, for lists of classes, for code (behind 79) and for stack maps (behind 78): the name of the number, and what it says.
+# For a file, for lists of classes, for code (after 79) and for stack maps (after 78): the name of the number, and what it says.
 SENTENCES = """
 2 EndsEarly: the number or part that begins there is not whole
 3 BadText: a text is no modified UTF-8 from this byte on
@@ -110,7 +110,7 @@ OF_NUMBER = {int(it.split()[0]): it for it in SENTENCES.strip().splitlines()}
 
 
 def text(lines):
-    """The lines, those behind the first one by two spaces further in."""
+    """The lines, those after the first one by two spaces further in."""
     return "".join(("  " if i else "") + it.strip() + "\n" for i, it in enumerate(lines))
 
 

@@ -1,4 +1,4 @@
-"""The frames that `classck explain` prints behind an instruction: JVMS 4.10.1.2, 4.10.1.4 and 4.10.1.6."""
+"""The frames that `classck explain` prints after an instruction: JVMS 4.10.1.2, 4.10.1.4 and 4.10.1.6."""
 from dataclasses import replace
 
 from rows.known import KNOWN
@@ -10,7 +10,7 @@ from tools.class_k import CONSTANTS, K, OBJECT_CLASS, code_f, method_f
 from tools.stack_maps import stack_map_of
 
 # A method: its name (f is static, g is not), descriptor, max_stack and max_locals; its code, in which words in
-# brackets are constants; a stack map by words; entries of the exception table; what is told; and the lines behind the
+# brackets are constants; a stack map by words; entries of the exception table; what is told; and the lines after the
 # sizes, with `/` between them. K has a field x of type I. The known classes are
 # those of rows/known.py: C is below A, and B is absent.
 ROWS = """
@@ -31,7 +31,7 @@ f ()V 2 1 | return; new [class A]; aload_0; pop; pop; return | 1 append uninitia
 <init> ()V 1 1 | aload_0; invokespecial [method java/lang/Object <init> ()V]; pop; return | | | 61 at 4 | 4 pop / locals Class K / stack / stack: expected units 1, found 0
 <init> ()V 1 1 | aconst_null; astore_0; return | | | 74 at 2 | 2 return / locals null / stack / flags flagThisUninit
 g (I)V 0 2 | pop; return | | | 61 at 0 | 0 pop / locals Class K, int / stack / stack: expected units 1, found 0
-# top in front of a local that is set, and none behind the last that is
+# top in front of a local that is set, and none after the last that is
 f ()V 1 4 | iconst_0; istore_2; pop; return | | | 61 at 2 | 2 pop / locals top, top, int / stack / stack: expected units 1, found 0
 f ()V 2 4 | lconst_0; lstore_1; pop; return | | | 61 at 2 | 2 pop / locals top, long / stack / stack: expected units 1, found 0
 f (J)V 1 2 | iconst_0; istore_0; pop; return | | | 61 at 2 | 2 pop / locals int / stack / stack: expected units 1, found 0
@@ -50,7 +50,7 @@ f (I)V 0 1 | pop; return | 0 full [top] [] | | 61 at 0 | 0 pop / locals / stack 
 f (LC;)V 0 1 | pop; return | 0 full [class A] [] | | 61 at 0 | 0 pop / locals Class A / stack / stack: expected units 1, found 0
 # and goes on from there
 f (LC;)V 1 1 | nop; aload_0; ireturn | 1 full [class A] [] | | 76 at 2 | 2 ireturn / locals Class A / stack Class A
-# for 69 the frame that comes stands in front of the one that is declared, and what differs behind them: the flag, a local, the size of the stack, or an item of it
+# for 69 the frame that comes stands in front of the one that is declared, and what differs after them: the flag, a local, the size of the stack, or an item of it
 f (I)V 0 1 | return | 0 full [float] [] | | 69 at 0 | 0 return / locals int / stack / declared locals float / declared stack / local 0: int is not assignable to float
 f ()V 1 0 | iconst_0; return | 1 same | | 69 at 1 | 1 return / locals / stack int / declared locals / declared stack / stack: items that come 1, declared 0
 f (LA;)V 2 2 | iconst_0; fconst_0; pop2; return | 2 full [top, int] [null, float] | | 69 at 2 | 2 pop2 / locals Class A / stack int, float / declared locals top, int / declared stack null, float / local 1: top is not assignable to int
@@ -113,7 +113,7 @@ g ()V 1 1 | aload_0; invokespecial [method B f ()V]; return | | | 77 at 1 missin
 f ()V 0 0 | nop; nop; return | 1 same; 4 same | | 78 at 0 fault 52 | 0 nop / entry 1 at 4
 f ()V 0 0 | nop; nop; return | bytes 0002 01 | | 78 at 0 fault 2 | 0 nop / entry 1
 f ()V 0 0 | nop; nop; return | bytes 0002 01 f0 | | 78 at 0 fault 47 | 0 nop / entry 1
-# and none where its number of entries is cut, or bytes stand behind them
+# and none where its number of entries is cut, or bytes stand after them
 f ()V 0 0 | nop; return | bytes 00 | | 78 at 0 fault 2 | 0 nop
 f ()V 0 0 | nop; return | bytes 0001 01 00 | | 78 at 0 fault 12 | 0 nop
 # for 68 the frame before the branch, and the first target, in the order of the instruction, from whose frame the frame after differs
@@ -140,7 +140,7 @@ f (I)V 0 1 | return; nop; return | | | 70 at 1 | 1 nop
 f (I)V 0 1 | goto 4; nop; return | 4 same | | 70 at 3 | 3 nop
 f (J)V 0 1 | return | | | 64 at 0 | 0 return
 """
-# Classes of several methods ()V, each by its code and its max_locals. `told` stands behind a method of which frames are
+# Classes of several methods ()V, each by its code and its max_locals. `told` stands after a method of which frames are
 # printed: the frames of the methods in front of it have fewer than 65,536 types. All locals count, also those that are
 # top, and so does each item of the stack.
 BOUNDED = """

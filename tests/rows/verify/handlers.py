@@ -51,7 +51,7 @@ ROWS = """
 ()V 1 0 | bipush 0; pop; return; pop; return | 4 same1 class java/lang/Throwable | 0 1 4 any | refused 72 at 0
 ()V 1 0 | bipush 0; pop; return; pop; return | 4 same1 class java/lang/Throwable | 0 2 4 any | verified
 ()V 1 0 | return; pop; return | 1 same1 class java/lang/Throwable | 0 3 1 any | verified
-# the first entry that is wrong is told, and it goes before the code, but behind the map
+# the first entry that is wrong is told, and it goes before the code, but after the map
 ()V 1 0 | pop; pop; return | 1 same1 class java/lang/Throwable | 0 1 1 B, 0 0 1 any | refused 77 at 0 missing B
 ()V 1 0 | pop; pop; return | 1 same1 class java/lang/Throwable | 0 0 1 any, 0 1 1 B | refused 72 at 0
 ()V 1 0 | pop; pop; return | 1 same1 class java/lang/Throwable | 0 0 1 B | refused 72 at 0
@@ -79,7 +79,7 @@ ROWS = """
 (I)V 1 1 | nop; fconst_0; fstore_0; nop; return; pop; return; pop; return | 5 same1 class java/lang/Throwable; 7 full [float] [class java/lang/Throwable] | 3 5 7 any, 0 4 5 any | refused 73 at 3
 """
 
-# Rows of a constructor of K, which is directly below Object: no entry covers its call of a constructor on the own object. Behind that the own object
+# Rows of a constructor of K, which is directly below Object: no entry covers its call of a constructor on the own object. After that the own object
 # is no longer one that is not initialized, and before it the handler's frame has to have that.
 OF_CONSTRUCTORS = """
 ()V 1 1 | aload_0; invokespecial [method java/lang/Object <init> ()V]; return; athrow | 5 full [uninitializedThis] [class java/lang/Throwable] | 0 1 5 any | verified

@@ -140,7 +140,7 @@ OF_INSTANCES = """
 
 
 def class_of(name, flags, descriptor, sizes, code, body, others):
-    """K with a field x behind others of these names, and one method, which has this code and this stack map."""
+    """K with a field x after others of these names, and one method, which has this code and this stack map."""
     constants = Constants(descriptor, name)
     data = assembled(code, constants)
     nested = [attribute(constants.text("StackMapTable"), stack_map_of(body, constants.owner))] if body else []

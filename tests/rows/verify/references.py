@@ -227,7 +227,7 @@ class Constants:
         return self.put(reference(tag, int(bootstrap), self.named_and_typed(name, descriptor)))
 
     def bootstraps(self, words="handle", behind=b""):
-        """A BootstrapMethods attribute of these entries, and bytes behind them. Entries stand between semicolons, each as the
+        """A BootstrapMethods attribute of these entries, and bytes after them. Entries stand between semicolons, each as the
         words of its method handle and, behind a colon, those of its static arguments."""
         entries = [it.partition(":") for it in words.split(";") if it.strip()]
         methods = [bootstrap_method(self.named(handle), [self.named(it) for it in arguments.split(",") if it]) for handle, _, arguments in entries]

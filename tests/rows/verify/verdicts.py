@@ -170,7 +170,7 @@ MAPPED = """
 
 
 def class_of(descriptor, method, *more):
-    """K of version 55 with this method; behind the texts that it needs stand a Long, an int and a Dynamic of a long, from 8 on."""
+    """K of version 55 with this method; after the texts that it needs stand a Long, an int and a Dynamic of a long, from 8 on."""
     behind = [long(1), integer(5), reference(17, 0, 12), name_and_type(5, 13), utf8("J"), *more]
     constants = with_constant(6, utf8(descriptor)).constants + behind
     return replace(K, constants=constants, methods=[method], major=55).data()
