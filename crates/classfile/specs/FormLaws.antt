@@ -1,6 +1,6 @@
--- Laws that follow from the definition of well-formed classes alone: which rule is reported of a place, that a class is well
--- formed or has one first fault, that the tests of names and descriptors are their forms, and that what a class names
--- is there.
+-- Laws that follow from the definition of well-formed classes alone: which rule is reported of a place, that a class is
+-- well formed or has one first fault, that the tests of names and descriptors are their forms, and that what a class
+-- names is there.
 use Rattle.std.specs.Prelude.{◌≡◌, ◌≢◌, ◌↔◌, ◌≤◌, ◌⊎◌, ℕ, Bool, List, slice_get, Some, None, Ok, IsTrue}
 use Rattle.names.specs.Names.{IsUnqualifiedName, IsMethodName, IsClassName}
 use Rattle.names.specs.Descriptors.{FieldDescriptor, MethodDescriptor, SpellsField, SpellsMethod, dimensions, method_width, AreWithinDimensions}

@@ -1,5 +1,6 @@
--- Laws that follow from the layout of class files alone: bytes spell at most one class, a class has at most one spelling,
--- and bytes that spell none have exactly one first fault. The numbers of an attribute are those that its body spells.
+-- Laws that follow from the layout of class files alone: bytes spell at most one class, a class has at most one
+-- spelling, and bytes that spell none have exactly one first fault. The numbers of an attribute are those that its body
+-- spells.
 use Rattle.std.specs.Prelude.{◌≡◌, ℕ, true, List, [], ◌∷◌, length, if◌then◌else◌, ◌⊎◌}
 use Rattle.layout.specs.Format.{AreBytes, Format, Spells, done, andthen, number, times}
 use Rattle.layout.specs.declared.fault.ReadFault.{ReadFault}

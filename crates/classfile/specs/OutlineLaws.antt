@@ -1,5 +1,5 @@
--- Laws that follow from outlines alone: a class file is one, a stream has one at most in front, and where it has none it
--- has a fault.
+-- Laws that follow from outlines alone: a class file is one, a stream has one at most in front, and where it has none
+-- it has a fault.
 use Rattle.std.specs.Prelude.{◌≡◌, ℕ, List, ◌++◌, ◌⊎◌}
 use Rattle.layout.specs.declared.fault.ReadFault.{ReadFault}
 use Rattle.classfile.specs.Values.{Class}

@@ -69,7 +69,8 @@ form_fault_place (Broken rule place) = Some place
 
 -- ---- steps
 
--- of the places of one kind, by their numbers, none has a fault; or the first that has one is reported; or memory ran out
+-- of the places of one kind, by their numbers, none has a fault; or the first that has one is reported; or memory ran
+-- out
 abbrev pub Passes : Class → (ℕ → Place) → Result (Unit {0}) FormFault → Type 0
 Passes c place (Ok done) = (n : ℕ) → fault_at c (place n) ≡ None
 Passes c place (Err OutOfMemory) = Unit {0}

@@ -1,5 +1,5 @@
-//! Laws that follow from the definitions alone, whatever the code does: of the layout of class files, and of well-formed
-//! classes.
+//! Laws that follow from the definitions alone, whatever the code does: of the layout of class files, and of
+//! well-formed classes.
 ghost use Rattle.std.specs.Prelude.{◌≡◌, ℕ, List, Some};
 ghost use Rattle.classfile.specs.OutlineLaws.{ClassIsOutline, OneOutline, OutlineOrFault, NoFaultBehindOutline};
 ghost use Rattle.classfile.specs.FileParts.{PartIsFound};

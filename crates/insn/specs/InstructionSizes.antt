@@ -1,5 +1,5 @@
--- How many bytes instructions have, by their operands (JVMS 6.5). Instructions that are made by hand have a size too, also
--- where no bytes spell them.
+-- How many bytes instructions have, by their operands (JVMS 6.5). Instructions that are made by hand have a size too,
+-- also where no bytes spell them.
 use Rattle.std.specs.Prelude.{ℕ, ◌+◌, List, [], ◌∷◌, length}
 use Rattle.insn.specs.Instructions.{Instruction, Operands, nothing, byte, short, constant, index, local, increment, branch, wide_branch, invoke_interface, invoke_dynamic, new_array, multi_new_array, table_switch, lookup_switch, wide_local, wide_increment}
 

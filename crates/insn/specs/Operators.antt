@@ -1,5 +1,5 @@
--- Operators: what numeric instructions take and give, what the instructions for the stack move, and which arrays element
--- instructions take (JVMS 2.11, 6.5).
+-- Operators: what numeric instructions take and give, what the instructions for the stack move, and which arrays
+-- element instructions take (JVMS 2.11, 6.5).
 use Rattle.std.specs.Prelude.{ℕ, Bool, true, false, List, [], ◌∷◌}
 use Rattle.names.specs.declared.base.Primitive.{Primitive}
 use Rattle.names.specs.declared.base.Primitive.TheVariants as primitives

@@ -62,7 +62,8 @@ impl<'a> Instructions<'a> {
         self.cursor.at()
     }
 
-    /// Moves past the instruction in front and returns its act, as [`act`](crate::act) does. An instruction has to begin there.
+    /// Moves past the instruction in front and returns its act, as [`act`](crate::act) does. An instruction has to
+    /// begin there.
     #[inline(always)]
     pub fn take_act(&mut self) -> Act<'a>
         requires { HasInstruction self.old }
@@ -85,9 +86,9 @@ impl<'a> Instructions<'a> {
         }
     }
 
-    /// Moves past the instruction in front, where its operands are unconstrained and it is no `new`, and returns whether
-    /// it did; otherwise it stays where it is, and [`next_start`](Instructions::next_start) goes on. Operands are
-    /// unconstrained where any bytes after the opcode, as many as its form has, are its operands (JVMS 6.5).
+    /// Moves past the instruction in front, where its operands are unconstrained and it is no `new`, and returns
+    /// whether it did; otherwise it stays where it is, and [`next_start`](Instructions::next_start) goes on. Operands
+    /// are unconstrained where any bytes after the opcode, as many as its form has, are its operands (JVMS 6.5).
     #[inline(always)]
     pub fn skip_unconstrained(&mut self) -> bool
         ensures skipped { result ≡ true → StepsBy (λ x. x) by_made self.old (Some (Ok (self.old.at, None))) self.new }

@@ -109,8 +109,8 @@ macro_rules! rows {
     };
 }
 
-/// The lengths of instructions with unconstrained operands by all numbers of a byte, of a table that is written one row a
-/// line.
+/// The lengths of instructions with unconstrained operands by all numbers of a byte, of a table that is written one row
+/// a line.
 macro_rules! unconstrained_lengths {
     ($($opcode:ident $mnemonic:literal $form:ident $meaning:expr;)*) => {
         [

@@ -65,8 +65,8 @@ fn is_its_own<'n, C: Classes>(
     Ok(numbers.assignable(number, number) == Answer::Yes)
 }
 
-/// Whether a class that is absent gets the first number for absent classes after a restart, and one in the hierarchy its
-/// own number as before.
+/// Whether a class that is absent gets the first number for absent classes after a restart, and one in the hierarchy
+/// its own number as before.
 fn restarts<'n, C: Classes>(numbers: &mut TypeNumbers<'_, 'n, C>) -> Result<bool, AllocError> {
     numbers.restart();
     Ok(is_numbered(numbers, &D, 0x0A00_0000)? && is_numbered(numbers, &A, 0x0700_0001)?)

@@ -13,7 +13,8 @@
 //! - `rearranging`: how instructions such as `dup` and `swap` move items of an operand stack.
 //! - `stack_rows`: operand stacks of the running frame and of the declared frames, and whether one is assignable to
 //!   another.
-//! - `type_rows`: rows of types of the running frame and of the declared frames, and whether one is assignable to another.
+//! - `type_rows`: rows of types of the running frame and of the declared frames, and whether one is assignable to
+//!   another.
 //! - `widths`: how many units types take.
 //!
 //! `docs/DEFINITIONS.md` says in a sentence what each file of `specs/` holds.

@@ -131,8 +131,8 @@ impl<'t, 'c, 'n, C: Classes> MethodFrames<'t, 'c, 'n, C> {
         })
     }
 
-    /// Begins anew, for another method of the same class, as [`new`](MethodFrames::new) does, but in the memory that there
-    /// is. It takes time for what was used of that memory.
+    /// Begins anew, for another method of the same class, as [`new`](MethodFrames::new) does, but in the memory that
+    /// there is. It takes time for what was used of that memory.
     pub fn restart(&mut self, max_locals: u16, max_stack: u16, flag: bool)
         ensures { self.new ≡ record {
           types = self.old.types;

@@ -29,14 +29,13 @@ struct Lacking<'n> {
 /// Rows of types by their numbers, such as the local variables of the frames of one method (JVMS 4.10.1.2): the row of
 /// the running frame, those of the declared frames, and one that is kept to tell what changed since.
 ///
-/// Rows share what they have in common ([`Arena`]). A running row of more than [`ONE_BLOCK`] places that was seen to fit
-/// a declared one is compared with it again only where it changed, so that a comparison takes time for what changed and
-/// not for the length of a row.
-/// Where a class is missing for a declared row, others are compared only from the place on at which they differ from
-/// that one.
+/// Rows share what they have in common ([`Arena`]). A running row of more than [`ONE_BLOCK`] places that was seen to
+/// fit a declared one is compared with it again only where it changed, so that a comparison takes time for what changed
+/// and not for the length of a row. Where a class is missing for a declared row, others are compared only from the
+/// place on at which they differ from that one.
 ///
-/// The places that came to hold an object which is not initialized are listed, so that to replace it takes time for these
-/// places alone.
+/// The places that came to hold an object which is not initialized are listed, so that to replace it takes time for
+/// these places alone.
 #[derive(Drop)]
 pub struct TypeRows<'t, 'c, 'n, C: Classes> {
     types: &'t TypeNumbers<'c, 'n, C>,
@@ -306,9 +305,10 @@ impl<'t, 'c, 'n, C: Classes> TypeRows<'t, 'c, 'n, C> {
         }
     }
 
-    /// Where the comparison with a declared row begins: the first place to compare; the answer for the places in front of
-    /// it; and, if that is a missing class, how many first places give it. In front of it are the places that the row has
-    /// in common with the one for which a class is missing, if they give the answer of that one, and otherwise none.
+    /// Where the comparison with a declared row begins: the first place to compare; the answer for the places in front
+    /// of it; and, if that is a missing class, how many first places give it. In front of it are the places that the
+    /// row has in common with the one for which a class is missing, if they give the answer of that one, and otherwise
+    /// none.
     fn start(&self, row: Row) -> (usize, Answer<'n>, usize)
         requires row { row < length self.now.declared }
         ensures within { result.0 ≤ length self.now.running }

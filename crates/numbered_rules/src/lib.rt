@@ -23,8 +23,8 @@
 //! - `operands`: how operands are taken off the stack.
 //! - `pops_and_pushes`: the rules that most instructions share: operands are popped, a result is pushed, and the frame
 //!   after is judged.
-//! - `pushing`: instructions that leave all operands and push one type, where the numbers of types tell at once that they
-//!   may.
+//! - `pushing`: instructions that leave all operands and push one type, where the numbers of types tell at once that
+//!   they may.
 //! - `returning`: returns.
 //! - `rule_numbers`: the numbers of the types that the rules of a method's instructions ask for.
 //! - `running`: the rule of an instruction by its act: it leads to the others.
@@ -33,8 +33,8 @@
 //! - `stacks`: instructions that move items of the stack, such as `dup` and `swap`.
 //!
 //! Definitions: `specs/Expected.antt` has the expected types by numbers, and which expected types of `rules` they stand
-//! for; `specs/RunningFrame.antt` the frame that the running frame stands for; `specs/RuleNumbers.antt` the numbers that
-//! [`run`] is given; `specs/Pushing.antt` the act and the numbers that [`push`] is given.
+//! for; `specs/RunningFrame.antt` the frame that the running frame stands for; `specs/RuleNumbers.antt` the numbers
+//! that [`run`] is given; `specs/Pushing.antt` the act and the numbers that [`push`] is given.
 //!
 //! `docs/DEFINITIONS.md` says in a sentence what each file of `specs/` holds.
 #![tactic(auto)]

@@ -17,8 +17,8 @@ use hierarchy::{Answer, Classes};
 use method_frames::MethodFrames;
 use rules::Reason;
 
-/// Pushes a local variable (JVMS 4.10.1.9). Its refusals are 63 and 64, those of [`judge_frame_after`], and 1 where memory
-/// runs out.
+/// Pushes a local variable (JVMS 4.10.1.9). Its refusals are 63 and 64, those of [`judge_frame_after`], and 1 where
+/// memory runs out.
 pub fn loads<'n, C: Classes>(
     method: &CodeMethod<'_, '_>,
     ask: Expected,

@@ -1,5 +1,5 @@
--- The lines of a method's code: its sizes, its instructions, or why it is none, and its handlers (JVMS 4.7.3); and the fields
--- of an object of JSON that say what these lines say.
+-- The lines of a method's code: its sizes, its instructions, or why it is none, and its handlers (JVMS 4.7.3); and the
+-- fields of an object of JSON that say what these lines say.
 use Rattle.std.specs.Prelude.{ℕ, nat_eq, if◌then◌else◌, List, [], ◌∷◌, ◌++◌, map, codes, decimal, Option, Some, None, Ok, Err}
 use Rattle.std.specs.List.{flat_map}
 use Rattle.std.specs.Option.{option_map_or}

@@ -1,6 +1,6 @@
--- The part of a file whose bytes are no class, in which the fault lies: a constant by its index and its kind, a field or a method by
--- its number, each after two blanks; after it an attribute by its number; and the fields of an object of JSON that
--- say this.
+-- The part of a file whose bytes are no class, in which the fault lies: a constant by its index and its kind, a field
+-- or a method by its number, each after two blanks; after it an attribute by its number; and the fields of an object of
+-- JSON that say this.
 use Rattle.std.specs.Prelude.{ℕ, nat_eq, if◌then◌else◌, List, [], ◌∷◌, ◌++◌, codes, decimal, Option}
 use Rattle.std.specs.Option.{option_map_or}
 use Rattle.classfile.specs.declared.file_parts.FilePart.{FilePart}

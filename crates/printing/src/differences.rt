@@ -1,5 +1,5 @@
-//! The line of the first place at which an incoming frame differs from the declared one (JVMS 4.10.1.4), or of the first
-//! one at which their comparison asks for a class that is missing, and its JSON fields.
+//! The line of the first place at which an incoming frame differs from the declared one (JVMS 4.10.1.4), or of the
+//! first one at which their comparison asks for a class that is missing, and its JSON fields.
 ghost use Rattle.frames.specs.Differences.{mismatch_of, difference_of};
 ghost use Rattle.printing.specs.Differences.{types_differ, mismatch_line, difference_line, mismatch_fields, difference_fields};
 ghost use Rattle.printing.specs.Json.{fields_then};

@@ -16,8 +16,8 @@
 //! - `frame` writes the lines of a frame, and a frame as fields
 //! - `differences` writes the line of the first difference of two frames, and its fields
 //! - `constants` writes a constant, by a line or as a field
-//! - `class_parts` writes a part of a class that was decoded and breaks a rule, and its attribute that does, by lines or as
-//!   fields
+//! - `class_parts` writes a part of a class that was decoded and breaks a rule, and its attribute that does, by lines
+//!   or as fields
 //! - `file_parts` writes a part of a file whose bytes are no class: the one in which the fault lies, by lines or as
 //!   fields
 //! - `class_attributes` writes the lines of records and sealed classes

@@ -12,8 +12,8 @@ abbrev pub or_cut : {X : Type 0} → ℕ → Result X ReadFault → Result X Cod
 or_cut at (Ok x) = Ok x
 or_cut at (Err e) = Err (CutInstruction at)
 
--- A call read by the format a part of the instruction that begins at an offset, and moved the cursor past the part. Where
--- it refused, nothing is said of the cursor.
+-- A call read by the format a part of the instruction that begins at an offset, and moved the cursor past the part.
+-- Where it refused, nothing is said of the cursor.
 abbrev pub Decodes : {X V : Type 0} → ℕ → Format (Result V CodeFault) → (X → V) → Place → Place → Result X CodeFault
     → Type 0
 Decodes at f view old new (Ok x) = judged at (reads f old.at old.rest) ≡ Ok (view x, new)
