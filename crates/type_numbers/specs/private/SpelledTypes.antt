@@ -6,13 +6,13 @@ use Rattle.names.specs.Forms.{AreBetween}
 use Rattle.names.specs.Descriptors.{FieldDescriptor, dimensions, field_spelling, result_spelling, result_types, right_parenthesis, IsWellNamed, IsResultWellNamed}
 use Rattle.names.specs.Reading.{is_deep}
 
--- the bytes are the descriptor of this type, and others behind it
+-- the bytes are the descriptor of this type, with others after it
 pub record BeginsWith (bytes : List ℕ) (t : FieldDescriptor) (rest : List ℕ) : Type 0 where
   pub named : IsWellNamed t
   pub shallow : dimensions t ≤ 255
   pub parts : bytes ≡ field_spelling t ++ rest
 
--- and the type is no array
+-- the bytes are the descriptor of this type, which is no array, with others after it
 pub record BeginsWithBase (bytes : List ℕ) (t : FieldDescriptor) (rest : List ℕ) : Type 0 where
   pub named : IsWellNamed t
   pub flat : dimensions t ≡ 0
