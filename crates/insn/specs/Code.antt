@@ -61,7 +61,8 @@ abbrev pub StepsBy : {X Y : Type 0} → (X → Y) → (ℕ × Instruction → Y)
 StepsBy view given old None new = (old.rest ≡ []) × (new ≡ old)
 StepsBy view given old (Some (Ok x)) new = (i : Instruction) × (view x ≡ given (old.at, i)) × (first : List ℕ)
     × SpellsInstruction old.at first i × Took first old new
-StepsBy view given old (Some (Err e)) new = (0 < length old.rest) × FaultyInstruction old.at old.rest e × (new.rest ≡ [])
+StepsBy view given old (Some (Err e)) new = (0 < length old.rest) × FaultyInstruction old.at old.rest e
+    × (new.rest ≡ [])
 
 -- an instruction is in front of the place
 abbrev pub HasInstruction : Place → Type 0

@@ -131,8 +131,8 @@ pub fn go<'a, C: Classes>(
     fresh: &[(u32, RunType<'a>)],
     classes: &C,
 ) -> Result<Outcome<'a>, StepFault>
-    ensures { Goes (world_of (C.content classes.now)) (effect_view effect.now) next (state_view state.entry) completion.branch
-        (option_map value_view completion.answer) (fresh_view fresh.now) result }
+    ensures { Goes (world_of (C.content classes.now)) (effect_view effect.now) next (state_view state.entry)
+        completion.branch (option_map value_view completion.answer) (fresh_view fresh.now) result }
 {
     let state = with_fresh(state, fresh)?;
     if is_last(effect) {

@@ -155,7 +155,8 @@ fn append_all<C: Classes>(
     frames: &mut MethodFrames<'_, '_, '_, C>,
 ) -> Result<(), AllocError>
     requires given { AreGiven frames.old.types numbers.now }
-    requires fits { units_of (types_by frames.old.types (locals.old ++ numbers.now)) ≤ length frames.old.running.locals }
+    requires fits { units_of (types_by frames.old.types (locals.old ++ numbers.now))
+        ≤ length frames.old.running.locals }
     requires laid { IsLaidOut frames.old locals.old }
     ensures rest { AreRewritten frames.old frames.new }
     ensures locals { OnOk result (locals.new ≡ locals.old ++ numbers.now) }
@@ -352,8 +353,8 @@ fn declare_all<St: Starts, C: Classes>(
         limits.now.max_locals limits.now.max_stack (types_by frames.old.types locals.old) (map entry_of entries.now))
         (frames_by frames.old.types frames.new.declared)) }
     ensures refused { IfOk result (λ r. refused_by r ≡ refused_entry limits.now.pool.now
-        (St.code limits.now.starts.now) limits.now.max_locals limits.now.max_stack (types_by frames.old.types locals.old)
-        (map entry_of entries.now)) }
+        (St.code limits.now.starts.now) limits.now.max_locals limits.now.max_stack
+        (types_by frames.old.types locals.old) (map entry_of entries.now)) }
 {
     let mut behind = 0;
     for place in 0..entries.len() {
@@ -393,8 +394,8 @@ fn declare_within<St: Starts, C: Classes>(
         limits.now.max_locals limits.now.max_stack (types_by frames.old.types initial.now) (map entry_of entries.now))
         (frames_by frames.old.types frames.new.declared)) }
     ensures refused { IfOk result (λ r. refused_by r ≡ refused_entry limits.now.pool.now
-        (St.code limits.now.starts.now) limits.now.max_locals limits.now.max_stack (types_by frames.old.types initial.now)
-        (map entry_of entries.now)) }
+        (St.code limits.now.starts.now) limits.now.max_locals limits.now.max_stack
+        (types_by frames.old.types initial.now) (map entry_of entries.now)) }
 {
     append_all(initial, locals, frames)?;
     if !entries.is_empty() {
@@ -437,8 +438,8 @@ pub fn declare<St: Starts, C: Classes>(
         limits.now.max_locals limits.now.max_stack (types_by frames.old.types initial.now) (map entry_of entries.now))
         (frames_by frames.old.types frames.new.declared)) }
     ensures refused { IfOk result (λ r. refused_by r ≡ refused_entry limits.now.pool.now
-        (St.code limits.now.starts.now) limits.now.max_locals limits.now.max_stack (types_by frames.old.types initial.now)
-        (map entry_of entries.now)) }
+        (St.code limits.now.starts.now) limits.now.max_locals limits.now.max_stack
+        (types_by frames.old.types initial.now) (map entry_of entries.now)) }
 {
     let memory = frames.lend(alloc);
     let mut given = memory.given;

@@ -95,8 +95,8 @@ fn constructs<'n, C: Classes>(
     frames: &mut MethodFrames<'_, '_, 'n, C>,
 ) -> Result<(), Reason<'n>>
     requires numbers { AreRuleNumbers frames.old.types (method_view body.now.method.now) body.now.numbers }
-    requires called { (c : MethodConstant) × IsMethod frames.old.types (arguments_of body.now.numbers.table.now) called c
-        × (is_class_type c.class ≡ true) }
+    requires called { (c : MethodConstant) × IsMethod frames.old.types
+        (arguments_of body.now.numbers.table.now) called c × (is_class_type c.class ≡ true) }
     ensures done { (at : ℕ) (c : MethodConstant) (name : List ℕ)
         → IsMethod frames.old.types (arguments_of body.now.numbers.table.now) called c → c.class ≡ class_type name
         → let m = method_view body.now.method.now in let f = held frames.old in

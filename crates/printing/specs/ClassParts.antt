@@ -27,7 +27,8 @@ part_lines c (Method n) = option_map_or (member_line (codes "  method ") c.const
 -- ---- the attribute at fault: its number from 0, and its name if the index leads to a text
 
 abbrev pub named_attribute_line : List Entry → ℕ → ℕ → List ℕ
-named_attribute_line pool n name = codes "  attribute " ++ (decimal n ++ (behind Words (text_at pool name) ++ codes "\n"))
+named_attribute_line pool n name =
+    codes "  attribute " ++ (decimal n ++ (behind Words (text_at pool name) ++ codes "\n"))
 
 abbrev pub numbered_line : ClassValue → Place → ℕ → List ℕ
 numbered_line c place n = option_map_or (named_attribute_line c.constant_pool n) (attribute_name c place n) []

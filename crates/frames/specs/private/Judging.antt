@@ -48,7 +48,8 @@ IsToldBy r fault = r ≡ Some (reason (frame_fault_number fault))
 module _ (pool : List Entry) (code : List (ℕ × Act)) (max_locals max_stack : ℕ) where
   -- the least reason against an entry at an offset, after locals of these types
   abbrev pub against : ℕ → List VerificationType → MapEntry → Option Reason
-  against at ts e = least (entry_conditions pool code max_locals max_stack at e ts (locals_of pool ts e) (stack_of pool e))
+  against at ts e =
+      least (entry_conditions pool code max_locals max_stack at e ts (locals_of pool ts e) (stack_of pool e))
 
   -- it is not refused, and this is its frame
   pub record IsDeclared (at : ℕ) (ts : List VerificationType) (e : MapEntry) (f : Frame) : Type 0 where

@@ -35,8 +35,8 @@ place_among classes places name = option_and_then (get nat_cmp places) (place_in
 
 -- each class, and no other, has a place, at which it stands
 pub record HavePlaces (classes all : List ClassFact) (places : BTreeMap ℕ ℕ) : Type 0 where
-  pub leads : (name : List ℕ) (p : ℕ) → place_among classes places name ≡ Some p → (c : ClassFact) × (slice_get all p ≡ Some c)
-      × (c.name ≡ name)
+  pub leads : (name : List ℕ) (p : ℕ) → place_among classes places name ≡ Some p
+      → (c : ClassFact) × (slice_get all p ≡ Some c) × (c.name ≡ name)
   pub exact : (p : ℕ) (c : ClassFact) → slice_get all p ≡ Some c → place_among classes places c.name ≡ Some p
 
 -- classes of a list, each after the one that stands directly above it

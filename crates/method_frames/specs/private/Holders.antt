@@ -60,5 +60,5 @@ pub record AreItems (numbers : List ℕ) (wides : ℕ) (x : Holders) : Type 0 wh
 
 -- each item from a place up that is an object is listed
 abbrev pub AreListedFrom : ℕ → Holders → List ℕ → Type 0
-AreListedFrom from x row = (place : ℕ) → from ≤ place → place < length row → is_uninitialized (slice_index row place) ≡ true
-    → IsListed x (slice_index row place) place
+AreListedFrom from x row = (place : ℕ) → from ≤ place → place < length row
+    → is_uninitialized (slice_index row place) ≡ true → IsListed x (slice_index row place) place

@@ -50,13 +50,15 @@ front_of (suc n) = Some n
 module _ (pool : List Entry) (code : List (ℕ × Act)) (max_locals max_stack : ℕ) where
   -- the least reason against an entry at an offset, after locals of these types
   abbrev pub against : ℕ → List VerificationType → MapEntry → Option Reason
-  against at ts e = least (entry_conditions pool code max_locals max_stack at e ts (locals_of pool ts e) (stack_of pool e))
+  against at ts e =
+      least (entry_conditions pool code max_locals max_stack at e ts (locals_of pool ts e) (stack_of pool e))
 
   -- the frame of an entry at an offset is declared after the others, and the running frame is this one
   pub record IsDeclared (old new : NumberedFrames) (at : ℕ) (e : MapEntry) (before after : List ℕ) : Type 0 where
     pub free : against at (types_by old.types before) e ≡ None
     pub locals : types_by old.types after ≡ locals_of pool (types_by old.types before) e
-    pub frame : frame_by old.types new.running ≡ frame_with pool code max_locals max_stack (types_by old.types after) (stack_of pool e)
+    pub frame : frame_by old.types new.running ≡ frame_with pool code max_locals max_stack (types_by old.types after)
+        (stack_of pool e)
     pub others : new ≡ record old { running = new.running; declared = old.declared ++ (at, new.running) ∷ [] }
     pub laid : IsLaidOut new after
 

@@ -58,7 +58,8 @@ abbrev pub IsEntryDescribed : Numbering → List ℕ → List Entry → Entry �
 IsEntryDescribed s row pool e c = IsDescribed s row (meaning_by pool e) c
 
 -- a row goes on with a constant, which is this entry
-pub record IsPushed (s : Numbering) (row : List ℕ) (pool : List Entry) (e : Entry) (old new : List NamedConstant) : Type 0 where
+pub record IsPushed (s : Numbering) (row : List ℕ) (pool : List Entry) (e : Entry) (old new : List NamedConstant)
+    : Type 0 where
   pub named : NamedConstant
   pub is : new ≡ old ++ named ∷ []
   pub described : IsEntryDescribed s row pool e named

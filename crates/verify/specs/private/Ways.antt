@@ -27,7 +27,8 @@ led_frame x (Some caught) = with_stack (held x) (type_by x.types caught ∷ [])
 -- its difference from the declared one
 abbrev pub way_difference : Sought → NumberedFrames → Way → Option DifferenceAtFact
 way_difference sought x w =
-    from_declared sought x.types.classes (led_frame x w.caught) w.at (Some (frame_by x.types (declared_frame x w.frame)))
+    from_declared sought x.types.classes (led_frame x w.caught) w.at
+    (Some (frame_by x.types (declared_frame x w.frame)))
 
 abbrev pub difference_if : Sought → NumberedFrames → Option Way → Option DifferenceAtFact
 difference_if sought x None = None

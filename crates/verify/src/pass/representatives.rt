@@ -129,7 +129,8 @@ impl Representatives {
         requires representatives { AreRepresentatives frames.now.declared self.old }
         ensures representatives { OnOk result (AreRepresentatives frames.now.declared self.new) }
         ensures added { OnOk result (to ≤ slice_index self.new.until.items frame) }
-        ensures others { OnOk result ((f : ℕ) → slice_index self.old.until.items f ≤ slice_index self.new.until.items f) }
+        ensures others { OnOk result ((f : ℕ)
+            → slice_index self.old.until.items f ≤ slice_index self.new.until.items f) }
     {
         reach(frames.count(), &mut self.until)?;
         let until = self.until[frame];
