@@ -1,9 +1,9 @@
 use names::{
-    Base, FieldType, MethodShape, MethodType, NameFault, NameForms, Text, check_text,
-    field_answers, field_type, first_set, is_class_name, is_field_descriptor, is_field_name,
-    is_method_name, method_answers, method_shape, method_type, name_forms, names_by_units,
-    one_field_type, one_method_type, one_unit_list, parameter_types, reference_type, result_type,
-    spell, text_answers, unit_at, units,
+    Base, FieldType, MethodShape, MethodType, NameFault, NameForms, Primitive, Text, brackets,
+    check_text, field_answers, field_type, first_set, is_class_name, is_field_descriptor,
+    is_field_name, is_method_name, method_answers, method_shape, method_type, name_forms,
+    names_by_units, one_field_type, one_method_type, one_unit_list, parameter_types, primitive_of,
+    reference_type, result_type, spell, text_answers, unit_at, units,
 };
 use std::alloc::Global;
 use std::test::*;
@@ -31,6 +31,13 @@ fn units_and_bits_in_front(rt: HostRuntime) {
     assert!(rt; unit_at(&SPELLING[1..]).is_none());
     assert!(rt; first_set(0, 16) == 16);
     assert!(rt; first_set(8, 16) == 3);
+}
+
+#[test]
+fn fronts_of_descriptors(rt: HostRuntime) {
+    assert!(rt; brackets(b"[[S") == 2);
+    assert!(rt; primitive_of(b'S') == Some(Primitive::Short));
+    assert!(rt; primitive_of(b'V').is_none());
 }
 
 /// Whether the bytes are these; or memory ran out, where it may.

@@ -52,8 +52,8 @@ pub use forms::{NameForms, name_forms};
 pub use name::{is_class_name, is_field_name, is_method_name, names_by_units};
 pub use parameters::{Parameters, parameter_types};
 pub use reading::{
-    field_answers, field_type, method_answers, method_type, one_field_type, one_method_type,
-    result_type,
+    brackets, field_answers, field_type, method_answers, method_type, one_field_type,
+    one_method_type, primitive_of, result_type,
 };
 pub use references::{RefType, reference_type};
 pub use shape::{MethodShape, method_shape};

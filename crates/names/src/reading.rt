@@ -56,8 +56,9 @@ fn read_class(bytes: &[u8]) -> Result<(&[u8], &[u8]), Outside<'_>>
     }
 }
 
-/// The primitive type that the letter stands for (JVMS Table 4.3-A).
-fn primitive_of(letter: u8) -> Option<Primitive>
+/// The primitive type that a letter stands for, if it stands for one (JVMS Table 4.3-A).
+#[inline(always)]
+pub fn primitive_of(letter: u8) -> Option<Primitive>
     ensures { result ≡ primitive_of letter }
 {
     match letter {
@@ -114,8 +115,8 @@ impl<'a> FieldRead<'a> {
     }
 }
 
-/// How many `[` the bytes begin with.
-pub(crate) fn brackets(bytes: &[u8]) -> usize
+/// How many `[` the bytes begin with: where a type stands there, its dimensions (JVMS 4.3.2).
+pub fn brackets(bytes: &[u8]) -> usize
     ensures within { result ≤ length bytes.now }
     ensures count { result ≡ prefix_len (λ b. b == bracket) bytes.now }
 {

@@ -1,14 +1,13 @@
 //! The types that a descriptor spells, one after the other from its front, where it is known to be a descriptor.
 ghost use Rattle.std.specs.Prelude.{◌≡◌, ◌+◌, ◌++◌, ◌∷◌, ◌<◌, ◌≤◌, ◌==◌, List, ℕ, None, length, IfSome, IsSomeAnd};
-ghost use Rattle.std.specs.List.{position_or_len, prefix_len};
+ghost use Rattle.std.specs.List.{position_or_len};
 ghost use Rattle.names.specs.Descriptors.{FieldDescriptor, base_of, right_parenthesis};
 ghost use Rattle.names.specs.Forms.{AreIn};
-ghost use Rattle.names.specs.Names.{IsClassName, bracket, semicolon};
-ghost use Rattle.names.specs.Reading.{primitive_of};
+ghost use Rattle.names.specs.Names.{IsClassName, semicolon};
 ghost use Rattle.names.specs.Types.{type_of};
 ghost use Rattle.type_numbers.specs.private.SpelledTypes.{AreOthersUpTo, BeginsWith, BeginsWithBase, is_other};
 
-use names::{Base, FieldType, Primitive, first_set};
+use names::{Base, FieldType, brackets, first_set, primitive_of};
 use std::simd::prelude::*;
 
 /// How many of the sixteen bytes from a place on are seen to be no `;`, up to the first that is one.
@@ -50,14 +49,6 @@ fn before_semicolon(bytes: &[u8]) -> usize
     at
 }
 
-/// How many `[` the bytes begin with.
-fn brackets(bytes: &[u8]) -> usize
-    ensures within { result ≤ length bytes.now }
-    ensures count { result ≡ prefix_len (λ b. b == bracket) bytes.now }
-{
-    bytes.iter().take_while(|b| **b == b'[').count()
-}
-
 /// The class name that stands in front of the first `;`, and the bytes after that.
 #[inline(always)]
 fn class_in_front(bytes: &[u8]) -> Option<(&[u8], &[u8])>
@@ -70,23 +61,6 @@ fn class_in_front(bytes: &[u8]) -> Option<(&[u8], &[u8])>
     match rest.split_first() {
         Some((_, behind)) => Some((name, behind)),
         None => None,
-    }
-}
-
-/// The primitive type of a letter (JVMS Table 4.3-A).
-fn primitive_of(letter: u8) -> Option<Primitive>
-    ensures { result ≡ primitive_of letter }
-{
-    match letter {
-        b'B' => Some(Primitive::Byte),
-        b'C' => Some(Primitive::Char),
-        b'D' => Some(Primitive::Double),
-        b'F' => Some(Primitive::Float),
-        b'I' => Some(Primitive::Int),
-        b'J' => Some(Primitive::Long),
-        b'S' => Some(Primitive::Short),
-        b'Z' => Some(Primitive::Boolean),
-        _ => None,
     }
 }
 
