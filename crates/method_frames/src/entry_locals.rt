@@ -6,16 +6,16 @@ ghost use Rattle.type_numbers.specs.Numbers.{Numbering};
 ghost use Rattle.type_numbers.specs.Decoding.{type_by, types_by};
 
 use crate::items::append;
-use crate::objects::OWN_TAG;
 use crate::widths::extra;
 use std::alloc::AllocError;
 use std::marker::Model;
+use type_numbers::tags;
 
 /// Whether the type of a number is that of the own object that is not initialized.
 fn is_own(number: u32) -> bool
     ensures { (s : Numbering) → result ≡ is_uninit_this (type_by s number) }
 {
-    number / 0x0100_0000 == OWN_TAG
+    number / 0x0100_0000 == u32::from(tags::UNINIT_THIS)
 }
 
 /// The locals that an entry of a stack map leaves (JVMS 4.7.4), by the numbers of their types: a long or double is one

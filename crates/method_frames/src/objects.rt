@@ -2,11 +2,7 @@
 ghost use Rattle.std.specs.Prelude.{◌≡◌, true};
 ghost use Rattle.method_frames.specs.Objects.{is_uninitialized, made_object, own_object};
 
-/// The tag with which the number of the own object begins that is not initialized.
-pub const OWN_TAG: u32 = 6;
-
-/// The tag with which the number of an object begins that a `new` made.
-const MADE_TAG: u32 = 8;
+use type_numbers::tags;
 
 /// The number of the own object that is not initialized.
 pub const OWN_OBJECT: u32 = 0x0600_0000;
@@ -25,5 +21,5 @@ pub fn is_uninitialized(number: u32) -> bool
     ensures { result ≡ is_uninitialized number }
 {
     let tag = number / 0x0100_0000;
-    tag == OWN_TAG || tag == MADE_TAG
+    tag == u32::from(tags::UNINIT_THIS) || tag == u32::from(tags::UNINIT)
 }

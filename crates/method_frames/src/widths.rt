@@ -6,11 +6,7 @@ ghost use Rattle.type_numbers.specs.Numbers.{Numbering};
 ghost use Rattle.type_numbers.specs.Decoding.{type_by};
 ghost use Rattle.method_frames.specs.private.Counted.{IsCounted};
 
-/// The tag with which the number of a double begins.
-const DOUBLE_TAG: u32 = 3;
-
-/// The tag with which the number of a long begins.
-const LONG_TAG: u32 = 4;
+use type_numbers::tags;
 
 /// Whether the type of a number is a long or a double.
 #[inline(always)]
@@ -18,7 +14,7 @@ pub fn is_wide(number: u32) -> bool
     ensures { (s : Numbering) → result ≡ is_wide (type_by s number) }
 {
     let tag = number / 0x0100_0000;
-    tag == DOUBLE_TAG || tag == LONG_TAG
+    tag == u32::from(tags::DOUBLE) || tag == u32::from(tags::LONG)
 }
 
 /// How many units an item takes beyond the first, by the number of its type.

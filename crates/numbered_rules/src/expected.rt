@@ -13,22 +13,7 @@ use hierarchy::{Answer, Classes};
 use insn::{Kind, takes_array};
 use method_frames::is_uninitialized;
 use names::Primitive;
-use type_numbers::{Parts, TypeNumbers, element_at};
-
-/// The highest tag of a type that is no reference: top, `int`, `float`, `double` and `long` have the tags up to it.
-const LAST_VALUE_TAG: u8 = 4;
-
-/// The tag of null.
-const NULL_TAG: u8 = 5;
-
-/// The tag of the own object that is not initialized.
-const OWN_TAG: u8 = 6;
-
-/// The tag of a class in the hierarchy, and of arrays of one.
-const CLASS_TAG: u8 = 7;
-
-/// The tag of arrays of primitive types. The tags above it are those of absent classes and of arrays of them.
-const PRIMITIVE_ARRAY_TAG: u8 = 9;
+use type_numbers::{Parts, TypeNumbers, element_at, tags};
 
 /// The expected type of an operand or a local variable (JVMS 4.10.1.9). A number of some kind is a type that is
 /// assignable to the type of this kind.
@@ -82,7 +67,7 @@ impl Asked for Kind {
 pub fn is_reference(parts: Parts) -> bool
     ensures { result ≡ is_reference_by parts.tag }
 {
-    parts.tag > LAST_VALUE_TAG
+    parts.tag > tags::LONG
 }
 
 /// Whether a type is that of a class or of arrays of one, by the parts of its number.
@@ -90,14 +75,16 @@ pub fn is_reference(parts: Parts) -> bool
 fn is_class(parts: Parts) -> bool
     ensures { result ≡ (nat_eq parts.tag 7 || nat_lt 9 parts.tag) }
 {
-    parts.tag == CLASS_TAG || parts.tag > PRIMITIVE_ARRAY_TAG
+    parts.tag == tags::CLASS || parts.tag > tags::PRIMITIVE_ARRAY
 }
 
 /// Whether a type is that of an array, or null, by the parts of its number.
 fn is_array(parts: Parts) -> bool
     ensures { result ≡ is_array_by parts.tag parts.dims }
 {
-    parts.tag == NULL_TAG || parts.tag == PRIMITIVE_ARRAY_TAG || is_class(parts) && parts.dims > 0
+    parts.tag == tags::NULL
+        || parts.tag == tags::PRIMITIVE_ARRAY
+        || is_class(parts) && parts.dims > 0
 }
 
 /// Whether a type is null, or that of an array whose elements an instruction for the primitive type takes, by the parts
@@ -105,8 +92,8 @@ fn is_array(parts: Parts) -> bool
 fn is_array_for(primitive: Primitive, parts: Parts) -> bool
     ensures { result ≡ is_array_for_by primitive parts.tag parts.dims parts.rest }
 {
-    parts.tag == NULL_TAG
-        || parts.tag == PRIMITIVE_ARRAY_TAG
+    parts.tag == tags::NULL
+        || parts.tag == tags::PRIMITIVE_ARRAY
             && parts.dims < 2
             && takes_array(primitive, element_at(parts.rest))
 }
@@ -116,14 +103,14 @@ fn is_array_for(primitive: Primitive, parts: Parts) -> bool
 pub fn holds_references(parts: Parts) -> bool
     ensures { result ≡ holds_references_by parts.tag parts.dims }
 {
-    parts.tag == PRIMITIVE_ARRAY_TAG && parts.dims > 1 || is_class(parts) && parts.dims > 0
+    parts.tag == tags::PRIMITIVE_ARRAY && parts.dims > 1 || is_class(parts) && parts.dims > 0
 }
 
 /// Whether a type is that of the own object that is not initialized, by the parts of its number.
 fn is_own(parts: Parts) -> bool
     ensures { result ≡ is_own_by parts.tag }
 {
-    parts.tag == OWN_TAG
+    parts.tag == tags::UNINIT_THIS
 }
 
 impl Expected {

@@ -18,14 +18,14 @@ use hierarchy::{Answer, Classes};
 use insn::{StackForm, StackOperator, StackPlace};
 use method_frames::{MethodFrames, is_wide};
 use rules::{Reason, units_taken};
-use type_numbers::Parts;
+use type_numbers::{Parts, tags};
 
 /// Whether a type takes one unit and is not top, by the parts of its number.
 #[inline(always)]
 pub fn is_narrow(parts: Parts) -> bool
     ensures { result ≡ is_narrow_by parts.tag }
 {
-    !(parts.tag == 0 || parts.tag == 3 || parts.tag == 4)
+    !(parts.tag == tags::TOP || parts.tag == tags::DOUBLE || parts.tag == tags::LONG)
 }
 
 /// Whether the type of a number fits a place.

@@ -47,9 +47,6 @@ text_within pool index text e = by (nat_eq index 0) (slice_get pool (index - 1))
 pub type_read : (form : Form) (pool : List Entry) (index : ℕ) (text : List ℕ) → text_at pool index ≡ Ok text → type_in form pool index ≡ text_type form text
 type_read form pool index text e = ap (λ r. option_and_then (text_type form) (found r)) e
 
-pub type_missed : (form : Form) (pool : List Entry) (index : ℕ) (x : PoolFault) → text_at pool index ≡ Err x → type_in form pool index ≡ None
-type_missed form pool index x e = ap (λ r. option_and_then (text_type form) (found r)) e
-
 -- the number that was read
 pub number_read : (s : Numbering) (t : Option VerificationType) (n : ℕ) → IsReading s t (Named n) → IsNumberOf s (Some n) t
 number_read s None n h = h

@@ -3,12 +3,13 @@ ghost use Rattle.std.specs.Prelude.{◌≡◌};
 ghost use Rattle.type_numbers.specs.private.Deciding.{decided, is_reference};
 
 use crate::parts::Parts;
+use crate::tags;
 
 /// Whether a tag is that of classes or of arrays.
 fn is_reference(tag: u8) -> bool
     ensures { result ≡ is_reference tag }
 {
-    tag == 7 || tag > 8
+    tag == tags::CLASS || tag > tags::UNINIT
 }
 
 /// Whether a value of the type of one number may stand where one of the type of another, which differs, is wanted; none
@@ -16,19 +17,21 @@ fn is_reference(tag: u8) -> bool
 pub fn decided(from: Parts, to: Parts) -> Option<bool>
     ensures { result ≡ decided from.tag from.dims to.tag to.dims }
 {
-    if to.tag == 0 {
+    if to.tag == tags::TOP {
         return Some(true);
     }
     if !is_reference(to.tag) {
         return Some(false);
     }
-    if from.tag == 5 {
+    if from.tag == tags::NULL {
         return Some(true);
     }
     if !is_reference(from.tag) || from.dims < to.dims {
         return Some(false);
     }
-    if to.tag == 9 || (from.dims == to.dims && from.tag == 9) {
+    if to.tag == tags::PRIMITIVE_ARRAY
+        || (from.dims == to.dims && from.tag == tags::PRIMITIVE_ARRAY)
+    {
         return Some(false);
     }
     None

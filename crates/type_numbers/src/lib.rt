@@ -12,6 +12,7 @@
 //! - `parts`: the parts of a number.
 //! - `recent_places`: the places of classes whose names were asked for a short while ago.
 //! - `spelled_types`: the types that a descriptor spells, one after the other.
+//! - `tags`: the tags of numbers.
 //! - `text_numbers`: the types that texts name, each text read once.
 //! - `texts`: the constants that lead to texts.
 //! - `type_numbers`: the numbers that the types of one class have.
@@ -27,6 +28,7 @@ mod named_constant;
 mod parts;
 mod recent_places;
 mod spelled_types;
+pub mod tags;
 mod text_numbers;
 mod texts;
 mod type_numbers;

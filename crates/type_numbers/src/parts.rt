@@ -3,6 +3,7 @@ ghost use Rattle.std.specs.Prelude.{◌≡◌, ◌+◌, ◌*◌, ◌/◌, ◌%�
 ghost use Rattle.type_numbers.specs.Numbers.{absent_number, numbered};
 ghost use Rattle.type_numbers.specs.Decoding.{element_at};
 
+use crate::tags;
 use names::Primitive;
 
 /// How many absent classes have numbers: those of 245 tags, from 10 to 254. No number is that of
@@ -44,7 +45,7 @@ pub fn present_number(dims: u8, place: u16) -> u32
     ensures { numbered 7 dims place ≡ Some result }
 {
     Parts {
-        tag: 7,
+        tag: tags::CLASS,
         dims,
         rest: place,
     }
@@ -55,7 +56,7 @@ pub fn present_number(dims: u8, place: u16) -> u32
 pub fn is_present(parts: Parts) -> bool
     ensures { result ≡ (nat_eq parts.tag 7 && nat_eq parts.dims 0) }
 {
-    parts.tag == 7 && parts.dims == 0
+    parts.tag == tags::CLASS && parts.dims == 0
 }
 
 /// The number of an object that the `new` at this offset makes.
@@ -63,7 +64,7 @@ pub fn uninit_number(offset: u16) -> u32
     ensures { numbered 8 0 offset ≡ Some result }
 {
     Parts {
-        tag: 8,
+        tag: tags::UNINIT,
         dims: 0,
         rest: offset,
     }
@@ -78,7 +79,7 @@ pub fn absent_number(dims: u8, place: usize) -> Option<u32>
         return None;
     }
     let parts = Parts {
-        tag: (10 + place / 0x1_0000) as u8,
+        tag: (usize::from(tags::ABSENT) + place / 0x1_0000) as u8,
         dims,
         rest: (place % 0x1_0000) as u16,
     };

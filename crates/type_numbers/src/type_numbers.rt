@@ -4,6 +4,7 @@ use crate::absent_names::AbsentNames;
 use crate::deciding::decided;
 use crate::parts::{Parts, absent_number, element_at, is_present, present_number, uninit_number};
 use crate::recent_places::RecentPlaces;
+use crate::tags;
 use frames::{VType, assignable, pack};
 use hierarchy::{Answer, Classes};
 use names::Base;
@@ -138,10 +139,10 @@ impl<'c, 'n, C: Classes> TypeNumbers<'c, 'n, C> {
     fn name_at(&self, tag: u8, rest: u16) -> Option<&'n [u8]>
         ensures { option_map (λ n. n.now) result ≡ name_at self.now tag rest }
     {
-        if tag == 7 {
+        if tag == tags::CLASS {
             return self.present.get(&rest).copied();
         }
-        let place = usize::from(tag.saturating_sub(10)) * 0x1_0000 + usize::from(rest);
+        let place = usize::from(tag.saturating_sub(tags::ABSENT)) * 0x1_0000 + usize::from(rest);
         self.absent.get(place)
     }
 
@@ -164,15 +165,15 @@ impl<'c, 'n, C: Classes> TypeNumbers<'c, 'n, C> {
         ensures { option_map type_of result ≡ type_at self.now parts.tag parts.dims parts.rest }
     {
         match parts.tag {
-            0 => Some(VType::Top),
-            1 => Some(VType::Int),
-            2 => Some(VType::Float),
-            3 => Some(VType::Double),
-            4 => Some(VType::Long),
-            5 => Some(VType::Null),
-            6 => Some(VType::UninitThis),
-            8 => Some(VType::Uninit(parts.rest)),
-            9 => Some(VType::Array {
+            tags::TOP => Some(VType::Top),
+            tags::INT => Some(VType::Int),
+            tags::FLOAT => Some(VType::Float),
+            tags::DOUBLE => Some(VType::Double),
+            tags::LONG => Some(VType::Long),
+            tags::NULL => Some(VType::Null),
+            tags::UNINIT_THIS => Some(VType::UninitThis),
+            tags::UNINIT => Some(VType::Uninit(parts.rest)),
+            tags::PRIMITIVE_ARRAY => Some(VType::Array {
                 dims: parts.dims,
                 base: Base::Primitive(element_at(parts.rest)),
             }),

@@ -38,7 +38,7 @@ use numbered_rules::{Body, NamedFacts, TOP};
 use pool::MethodConstant;
 use rules::{ClassConstants, Reason, Use, check_object, is_constructor, special_index, used_by};
 use std::alloc::AllocError;
-use type_numbers::{ConstantTable, NamedConstant, Parts, TypeNumbers};
+use type_numbers::{ConstantTable, NamedConstant, Parts, TypeNumbers, tags};
 
 /// The type of the item of the running frame's stack that so many stand above; top where there is none.
 fn item_beneath<'n, C: Classes>(above: usize, frames: &MethodFrames<'_, '_, 'n, C>) -> u32
@@ -137,7 +137,7 @@ fn may_be_above<'a, C: Classes>(
     if parts.dims > 0 {
         return false;
     }
-    if parts.tag == 7 && own_parts.tag == 7 {
+    if parts.tag == tags::CLASS && own_parts.tag == tags::CLASS {
         return constants.members.is_below(own_parts.rest, parts.rest);
     }
     true
