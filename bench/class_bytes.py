@@ -1,8 +1,8 @@
-"""Class files made by hand, without Java: what the measurements of hostile files are made of, and the files of one measurement."""
+"""Class files made by hand, without Java: the parts of the hostile files that are measured, and the files of one measurement."""
 import pathlib
 import struct
 
-POOL = 8  # the first index behind the fixed entries
+POOL = 8  # the first index after the fixed entries
 
 
 def utf8(text):
@@ -48,7 +48,7 @@ def path_of(folder, i):
 
 
 def written(folder, classes):
-    """Writes the file of each of these classes. Whether there are any."""
+    """Writes the file of each of these classes; returns whether there are any."""
     for i, data in enumerate(classes):
         path_of(folder, i).write_bytes(data)
     return bool(classes)

@@ -6,9 +6,9 @@ from long_descriptors import class_file
 from long_texts import indices, utf8
 
 ICONST_0, DUP, DUP2, POP, RETURN, GOTO_W = b"\x03", b"\x59", b"\x5c", b"\x57", b"\xb1", b"\xc8"
-ASTORE, ALOAD = b"\xc4\x3a", b"\xc4\x19"  # behind wide, with two bytes for the local
+ASTORE, ALOAD = b"\xc4\x3a", b"\xc4\x19"  # after wide, with two bytes for the local
 STATIC = 9
-# The constructor of K stands at 8, and after what it leads to the name of the method and that of a stack map.
+# The constructor of K is at 8; after the constants that it leads to come the name of the method and that of a stack map.
 CONSTRUCTOR, NAME, MAP = 8, 11, 12
 NAMED = [indices(10, 1, 9), indices(12, 10, 5), utf8(b"<init>"), utf8(b"m"), utf8(b"StackMapTable")]
 NEW, INVOKESPECIAL = b"\xbb\x00\x01", b"\xb7" + struct.pack(">H", CONSTRUCTOR)
@@ -31,7 +31,7 @@ def made_above():
 
 
 def held_below():
-    """Each object stands on the stack and in a local, and is initialized by way of this."""
+    """Each object is on the stack and in a local, and is initialized through the local."""
     made = b"".join(NEW + DUP + ASTORE + struct.pack(">H", i) for i in range(HELD))
     initialized = b"".join(ALOAD + struct.pack(">H", i) + INVOKESPECIAL for i in range(HELD))
     return in_class(made + INTS + initialized + RETURN, HELD + DEPTH + 1, HELD)

@@ -12,7 +12,7 @@ WRONG = "62 WrongOperand: an operand is of another type than the instruction tak
 AT_TARGET = "68 NotAssignableAtTarget: the frame after the instruction is not assignable to the one that is declared at a target"
 AT_HANDLER = "73 HandlerNotAssignable: the frame before the instruction is not assignable to the one that is declared at a handler which covers it"
 NO_UNIT = "stack: expected units 1, found 0"
-# `explain` prints frames as long as those of the methods in front have fewer types
+# `explain` prints frames as long as the frames of the methods before have fewer types than this
 BOUND = 65536
 
 
@@ -21,7 +21,7 @@ def numbered(count):
 
 
 def text(number, sentence, at, sizes, instruction, *frame):
-    """What is printed of the method of this number."""
+    """The lines that are printed for the method of this number."""
     lines = [f"method m{number} ()V refused {sentence.split()[0]} at {at}", sentence, "stack %d locals %d" % sizes, f"{at} {instruction}", *frame]
     return "\n  ".join(lines) + "\n"
 
@@ -59,7 +59,7 @@ def long_names(count, length):
 
 def last_target(cases, returns):
     """A switch in a frame of 65,535 ints to so many frames, of which the last one has a float in their place."""
-    behind = 16 + 4 * cases  # the switch stands at 2
+    behind = 16 + 4 * cases  # the switch is at 2
     to = [behind + i % returns for i in range(cases)]
     operands = struct.pack(">iii", behind - 2, 0, cases - 1) + b"".join(struct.pack(">i", it - 2) for it in to)
     code = RETURN + ICONST_0 + b"\xaa\x00" + operands + RETURN * returns
@@ -79,7 +79,7 @@ def last_handler(count):
     return data, text(0, AT_HANDLER, 1, (1, MOST), "nop", *frame)
 
 
-# by its name: a file, and what is printed
+# by name: a file, and the lines that are to be printed
 FILES = {
     "a stack of 65,535 ints, refused above them": lambda: deep_stack(MOST),
     "65,000 methods, each refused with one local": lambda: one_local(65000),

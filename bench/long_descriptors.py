@@ -7,7 +7,7 @@ NOP, ACONST_NULL, ICONST_0, ALOAD_0, POP, RETURN = b"\x00", b"\x01", b"\x03", b"
 GETSTATIC, PUTFIELD, INVOKESPECIAL, INVOKESTATIC, CHECKCAST = b"\xb2", b"\xb5", b"\xb7", b"\xb8", b"\xc0"
 STATIC = 9
 
-# At 1 and 3 the class and its superclass, at 5 `()V`, at 6 `Code`, at 7 the name that is called, at 8 the constant that is named; from 13 on come the others.
+# At 1 and 3 are the class and its superclass, at 5 `()V`, at 6 `Code`, at 7 the name that is called, at 8 the constant that is named; the others begin at 13.
 HEAD = [
     indices(7, 2), utf8(b"K"), indices(7, 4), utf8(b"java/lang/Object"), utf8(b"()V"), utf8(b"Code"), utf8(b"f"),
 ]
@@ -164,7 +164,7 @@ def verified(count):
     return b"".join(b"method m%d ()V verified\n" % i for i in range(count))
 
 
-# by its name: the file, and what `verify` prints
+# by name: the file, and what `verify` prints
 FILES = {
     "16,383 calls of one method of a long descriptor": (calls_of_one, verified(1)),
     "16,383 calls of as many methods of one long descriptor": (calls_by_many, verified(1)),

@@ -38,7 +38,7 @@ def entry(arguments):
 
 
 def class_file(entries, numbers, methods):
-    """A class with these bootstrap methods, with call sites of these numbers of them, and for each method its call sites."""
+    """A class with these bootstrap methods, with call sites that use those of these numbers, and with the call sites of each method."""
     table = [
         *HEAD, *[utf8(name(i)) for i in range(NAMES)], *[utf8(descriptor(i * NAMES)) for i in range(DESCRIPTORS)],
         *[indices(18, it, NAME_AND_TYPE) for it in numbers],
@@ -74,7 +74,7 @@ def lines(count, verdict):
     return b"".join(b"method %s %s %s\n" % (name(i), descriptor(i), verdict) for i in range(count))
 
 
-# by its name: the file, what `verify --dynamic` prints, and its status
+# by name: the file, what `verify --dynamic` prints, and its status
 FILES = {
     "65,000 methods that each use one of as many bootstrap methods of 90 arguments": (one_each, lines(METHODS, b"verified"), 0),
     "65,000 methods that use one bootstrap method of 65,535 arguments": (one_of_many_arguments, lines(METHODS, b"verified"), 0),

@@ -1,5 +1,5 @@
-"""Class files with one instruction under very many handlers, or with very many targets, whose frames ask for a class that is missing, for
-`bench/hostile`. The class K comes in local 0, and Y is declared there."""
+"""Class files with one instruction under very many handlers, or with very many targets, whose frames need a class that is missing, for
+`bench/hostile`. The frame that comes has the class K in local 0, and the declared frames have Y there."""
 import struct
 
 from class_bytes import POOL, class_file, handler, method, stack_map
@@ -7,7 +7,7 @@ from class_bytes import POOL, class_file, handler, method, stack_map
 RETURN, NOP, ICONST_0 = b"\xb1", b"\x00", b"\x03"
 INT = b"\x01"
 OWN, OBJECT = b"\x07" + struct.pack(">H", 1), b"\x07" + struct.pack(">H", 3)
-MISSING = b"\x07" + struct.pack(">H", POOL + 2)  # behind the one name of a method and that of Y
+MISSING = b"\x07" + struct.pack(">H", POOL + 2)  # after the one name of a method and that of Y
 TOP_ON_STACK, APPEND_INT, CHOP_ONE = b"\x40\x00", b"\xfc\x00\x00\x01", b"\xfa\x00\x00"
 
 
@@ -31,7 +31,7 @@ def made(code, max_locals, entries, handlers=()):
 
 def targets(cases, returns, locals_given, behind_first):
     """A switch to so many frames: the first one, and those that come of these entries in turn."""
-    behind = 16 + 4 * cases  # the switch stands at 2
+    behind = 16 + 4 * cases  # the switch is at 2
     to = b"".join(struct.pack(">i", behind + i % returns - 2) for i in range(cases))
     code = RETURN + ICONST_0 + b"\xaa\x00" + struct.pack(">iii", behind - 2, 0, cases - 1) + to + RETURN * returns
     others = [behind_first[i % len(behind_first)] for i in range(returns - 1)]
@@ -74,7 +74,7 @@ def handlers_in_turn(count, locals_given):
     return made(RETURN + NOP + RETURN * count, locals_given, entries, table), refused(1)
 
 
-# by its name: a file, and what is printed
+# by name: a file, and what is printed
 FILES = {
     "a switch to 1,500 frames of 65,000 locals that ask for a missing class": lambda: targets(15000, 1500, 65000, [b"\x00"]),
     "a switch to 1,500 such frames that append a local and chop it in turn": lambda: targets(15000, 1500, 65000, [APPEND_INT, CHOP_ONE]),

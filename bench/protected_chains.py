@@ -1,4 +1,4 @@
-"""Classes whose methods read protected fields of classes far above, with these, for `bench/hostile`: one judged beside known ones, or all in play."""
+"""Classes whose methods read protected fields of classes far above, and these classes, for `bench/hostile`: one judged beside known ones, or all in play."""
 import struct
 
 from long_texts import LONGEST, indices, utf8
@@ -7,7 +7,7 @@ ACONST_NULL, ALOAD_0, POP, RETURN, GETFIELD = b"\x01", b"\x2a", b"\x57", b"\xb1"
 STATIC, PROTECTED = 9, 4
 CHAIN, READS, FIELDS, DECLARED, OF_NULL = 10_000, 21_000, 16_000, 40, 13_000
 LINES = b"method m (LK;)V verified\n"
-# In each class the class and its superclass stand at 1 and 3, and the others from 5 on; in K these first.
+# In each class the class and its superclass are at 1 and 3, and the other constants from 5 on; in K these come first.
 OF_METHOD = [utf8(b"m"), utf8(b"(LK;)V"), utf8(b"Code"), utf8(b"LK;")]
 NAME, DESCRIPTOR, CODE, FIELD_TYPE, BEHIND = 5, 6, 7, 8, 9
 
@@ -73,7 +73,7 @@ def of_long_names():
 
 
 OTHERS = numbered(b"y", DECLARED)
-# by its name: the class and those that are known beside Object
+# by name: the class, and those that are known beside Object
 FILES = {
     "21,000 reads of a field of the last of 10,000 superclasses": lambda: of_chain([b"x"], READS, [], [b"x"]),
     "16,000 reads of a field each, which none of 10,000 superclasses declares": lambda: of_chain(numbered(b"x", FIELDS), FIELDS, [], []),

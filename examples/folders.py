@@ -2,9 +2,9 @@
 import os
 import re
 
-# The classes that a class may need and not name.
+# The classes that a class may need without naming them.
 UNNAMED = ["java/io/Serializable", *(f"java/lang/{it}" for it in ("Class", "Cloneable", "Object", "String", "Throwable", "invoke/MethodHandle", "invoke/MethodType"))]
-# The bytes of each constant with its tag; of a text (1) they are three and so many more.
+# The bytes of each constant with its tag; a text (1) has three, and as many more as its length says.
 SIZES = {3: 5, 4: 5, 5: 9, 6: 9, 7: 3, 8: 3, 9: 5, 10: 5, 11: 5, 12: 5, 15: 4, 16: 3, 17: 5, 18: 5, 19: 3, 20: 3}
 # The names of packages that are looked for.
 NAME = re.compile(r"[\w$]+", re.ASCII)
@@ -21,7 +21,7 @@ class Folder:
         return file if os.path.isfile(file) else None
 
     def beginnings(self):
-        """The beginnings of the names of its classes: the folders in it, and instead of one that holds nothing but another both."""
+        """The beginnings of the names of its classes: the folders in it, and for one that holds nothing but another folder the path of both."""
         for it in entries(self.path):
             if it.is_dir() and NAME.fullmatch(it.name):
                 below = entries(it.path)
@@ -59,7 +59,7 @@ def superclass(data):
 
 
 class Known:
-    """The classes of folders: each package is listed once, and `files` has those of the names that were added, with the classes above them."""
+    """The classes of folders: each package is listed once, and `files` has those whose names were added, with the classes above them."""
 
     def __init__(self, folders):
         self.paths, self.packages, self.files = [os.path.abspath(it.path) for it in folders], {}, {}

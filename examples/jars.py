@@ -10,15 +10,15 @@ import zlib
 
 # A class file has 16,777,216 bytes at most, so no more of an entry is unpacked than tells that it has more.
 MOST = 16777217
-# So many bytes the classes of a jar have at most, and so many a jar within.
+# The most bytes that the classes of a jar may have, and that a jar within it may have.
 MOST_CLASSES, MOST_NESTED = 1 << 32, 1 << 28
-# So many bytes are worth a process that unpacks them; in so many, or one class, names are looked for at once.
+# For so many bytes it is worth starting a process that unpacks them; in so many, or in one class, names are searched for at once.
 PART, PIECE = 1 << 19, 1 << 18
 # A file system in memory, whose files cost less than those of a disk.
 MEMORY = "/dev/shm"
 VERSION = re.compile(r"META-INF/versions/(\d+)/(.+)")
 ROOTS = ("BOOT-INF/classes/", "WEB-INF/classes/")
-# The errors of `zipfile` where a jar is damaged, or kept in a way that it does not know.
+# The errors of `zipfile` for a jar that is damaged, or stored in a way that it does not know.
 FAULTS = (OSError, ValueError, EOFError, RuntimeError, zipfile.BadZipFile, zlib.error)
 
 
@@ -37,7 +37,7 @@ class Classes:
 
 
 def in_memory(size):
-    """Where files of so many bytes go: into memory if it has four times the room, and TMPDIR does not say where; None for the usual place."""
+    """Where files of so many bytes go: into memory if it has four times the room and TMPDIR is not set; None for the usual place."""
     try:
         told = os.statvfs(MEMORY)
     except OSError:
@@ -73,14 +73,14 @@ class Jar:
 
     @contextlib.contextmanager
     def told(self):
-        """Says of the jar what is wrong with it."""
+        """Says what is wrong with the jar."""
         try:
             yield
         except FAULTS as why:
             raise Refused(f"{self.label} cannot be read: {why}") from why
 
     def add(self, entry, file):
-        """Has the file of a class by its version and name, and gives it."""
+        """Adds the file of a class by its version and name, and returns it."""
         found = VERSION.fullmatch(entry)
         version, path = (int(found[1]), found[2]) if found else (0, entry)
         root = next((it for it in ROOTS if path.startswith(it)), "")

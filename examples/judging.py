@@ -27,7 +27,7 @@ WITHOUT_RULE = 3
 
 
 def begin_build():
-    """Begins to have the program built where it is not, or a source is newer, and gives the process. One that is installed is there."""
+    """Begins to build the program if it is not built, or a source is newer, and returns the process. An installed program needs no build."""
     words = [WRAPPER, "check", f"{HERE}/classes/Hello.class"]
     return subprocess.Popen(words, stdout=subprocess.DEVNULL) if os.path.isfile(WRAPPER) else None
 
@@ -48,7 +48,7 @@ def found(name, places):
 
 
 def fits(words):
-    """Whether a process can be given these words: they, the environment and a pointer to each have to fit."""
+    """Whether these words can be passed to a process: they, the environment and a pointer to each have to fit."""
     given = [*words, *(f"{name}={value}" for name, value in os.environ.items())]
     return sum(len(os.fsencode(it)) + 9 for it in given) + 4096 < os.sysconf("SC_ARG_MAX")
 
@@ -114,7 +114,7 @@ class Verifier:
         return "\n".join([*self.told(lines, [file, *files]), *(self.opened(it, [file, *files]) for it in errors)]), status
 
     def each(self, files, known):
-        """From one process, of each class in these files its name and the answer; None where it gives none."""
+        """For each class in these files, from one process, its name and the answer; None where it gives none."""
         words = ["verify-each", *self.flags, *(["--known", *known] if known else []), "--", *files]
         if not fits([PROGRAM, *words]):
             return None
@@ -169,7 +169,7 @@ class Verifier:
 
 
 class Count:
-    """How many methods and classes were judged so."""
+    """Counts of the methods and classes by their answers."""
 
     def __init__(self):
         self.verified = self.no_code = self.classes = self.whole = self.status = 0
