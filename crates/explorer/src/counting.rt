@@ -108,7 +108,7 @@ fn code_of<'a>(method: &CodeMethod<'_, 'a>) -> &'a [u8] {
     method.code.code
 }
 
-/// The walks through the method of a number, by so many choices; none where it has no code, or the code is none.
+/// The walks through the method of a number, by so many choices; none where it has no code, or its bytes are not code.
 fn walk_method<C: Classes>(
     alloc: Global,
     formed: &Formed<'_, '_>,

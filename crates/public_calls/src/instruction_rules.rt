@@ -206,7 +206,7 @@ fn protected_members(rt: HostRuntime) {
     assert!(rt; matches!(judge_clone(alloc, VType::Int), Err(62)));
 }
 
-/// Whether a `goto`, a `nop` and a `jsr` go the right ways. Behind `jsr`, which has no rule, code may go on.
+/// Whether a `goto`, a `nop` and a `jsr` go the right ways. After `jsr`, which has no rule, code may go on.
 fn are_ways(list: &[(u16, Insn<'_>)]) -> bool {
     match list {
         [(_, goto), (_, nop), (_, jsr)] => {

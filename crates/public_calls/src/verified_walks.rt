@@ -139,8 +139,8 @@ fn walk_of_a_verified_method(rt: HostRuntime) {
     assert!(rt; goes(rt.alloc(), &K, RIGHT) == Ok((1, Stop::Ended)));
 }
 
-/// The least number that holds is told: 55 of a state in which the method does not begin, also where it is refused or
-/// its class is not listed; 56 of a method that is refused; 80 of a class that is not listed.
+/// The least number that holds is the answer: 55 for a state in which the method does not begin, also if it is refused
+/// or its class is not listed; 56 for a method that is refused; 80 for a class that is not listed.
 #[test]
 fn walks_that_are_refused(rt: HostRuntime) {
     let alloc = rt.alloc();

@@ -66,15 +66,15 @@ pub fn frames_are_judged()
     ensures { FramesAreJudged }
 {}
 
-/// Where a method is refused by 61 to 63, 68, 69, 72, 73 or 75, it is told what is wrong, for 62 with two exceptions:
-/// an instruction that moves items of the stack, of which those on top are of none of its forms, and a `new` whose
-/// object of an earlier pass is still on the stack.
+/// If a method is refused with 61 to 63, 68, 69, 72, 73 or 75, there is a detail that says what is wrong. For 62 there
+/// are two exceptions: an instruction that moves items of the stack, if the items on top have none of its forms, and a
+/// `new` whose object of an earlier pass is still on the stack.
 pub fn details_are_told()
     ensures { DetailsAreTold }
 {}
 
-/// Where a stack map is refused, it is told which entry is at fault, but where the number of the entries is cut, or
-/// bytes stand after the last one.
+/// If a stack map is refused, there is a detail that says which entry is at fault, unless the number of the entries is
+/// cut or bytes follow the last one.
 pub fn map_details_are_told()
     ensures { MapDetailsAreTold }
 {}

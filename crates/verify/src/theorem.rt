@@ -19,7 +19,7 @@ pub fn type_safe_is_safe()
 
 /// Classes that a hierarchy has as they are, and of which each method with code is type-safe under it, meet no fault
 /// when they run together: in no activation of a run in which calls enter their methods, in any world that extends the
-/// hierarchy. What entered methods answer need not be assumed to fit.
+/// hierarchy. It need not be assumed that the values which the entered methods return fit.
 pub fn verified_is_playable()
     ensures { VerifiedIsPlayable }
 {}
