@@ -3,12 +3,10 @@ use Rattle.std.proofs.Common.{◌≡◌, ◌∙◌, ℕ, zero, suc, ◌+◌, ◌
 use Rattle.std.specs.Option.{option_and_then}
 use Rattle.std.proofs.lemmas.Bool.{eqb-true, true≢false}
 use Rattle.std.proofs.lemmas.Grind.{get_or-set_at}
-use Rattle.std.proofs.lemmas.List.{get_or-set_other, length-map, map-append, take-append-le, take_more}
+use Rattle.std.proofs.lemmas.List.{get_or-set_other, take-append-le}
 use Rattle.std.proofs.lemmas.Option.{get_or_from_slice_get, slice_get_read}
 use Rattle.names.specs.Descriptors.{MethodDescriptor, method_width}
 use Rattle.names.specs.Reading.{method_answer}
-use Rattle.names.specs.Types.{type_of}
-use Rattle.names.specs.declared.descriptor.FieldType.{FieldType}
 use Rattle.pool.specs.Entries.{Entry}
 use Rattle.pool.specs.Lookups.{text_at}
 use Rattle.pool.specs.ConstantMeanings.{found}

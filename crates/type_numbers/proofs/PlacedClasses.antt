@@ -3,7 +3,7 @@ use Rattle.std.proofs.Common.{◌≡◌, ◌∙◌, ℕ, ◌+◌, ◌/◌, ◌%�
 use Rattle.std.specs.Str.{bytes_eq}
 use Rattle.std.proofs.lemmas.Bool.{eqb-true, and_parts}
 use Rattle.names.specs.StandardNames.{object_name}
-use Rattle.hierarchy.specs.Answer.{Outcome, yes, yes_if, subclass_answer, SubclassAnswer}
+use Rattle.hierarchy.specs.Answer.{yes, subclass_answer}
 use Rattle.hierarchy.specs.Class.{ClassFact, interface_of}
 use Rattle.hierarchy.specs.Places.{place_in}
 use Rattle.hierarchy.proofs.Names.{none_some, some_same}

@@ -1,10 +1,7 @@
 -- The numbers of the types of a descriptor, put after a row one by one.
-use Rattle.std.proofs.Common.{◌≡◌, ℕ, ◌≤◌, ◌+◌, Bool, true, false, List, [], ◌∷◌, ◌++◌, map, length, Option, Some, None, Ok, option_map, refl, sym, ap, subst, ◌∙◌, append_assoc, length-append, arith}
-use Rattle.std.specs.List.{flat_map}
+use Rattle.std.proofs.Common.{◌≡◌, ℕ, ◌+◌, false, List, [], ◌∷◌, ◌++◌, map, length, option_map, refl, sym, ap, subst, ◌∙◌, append_assoc, length-append, arith}
 use Rattle.std.proofs.lemmas.List.{append-nil, length-map, map-append}
-use Rattle.names.specs.Descriptors.{FieldDescriptor, MethodDescriptor, field_spelling, method_width, right_parenthesis}
-use Rattle.names.specs.Reading.{method_answer}
-use Rattle.frames.specs.VerificationType.{VerificationType}
+use Rattle.names.specs.Descriptors.{FieldDescriptor, MethodDescriptor, method_width, right_parenthesis}
 use Rattle.frames.specs.Slots.{descriptor_type}
 use Rattle.type_numbers.specs.declared.method_numbers.MethodNumbers.{MethodNumbers}
 use Rattle.type_numbers.specs.Numbers.{Numbering, IsNumber, IsNumberOf, Extends}
@@ -12,7 +9,7 @@ use Rattle.type_numbers.specs.MethodNumbers.{AreTypes}
 use Rattle.type_numbers.specs.private.Readings.{ArePushed}
 use Rattle.type_numbers.specs.private.SpelledTypes.{AreInFront, BeginsWith}
 use Rattle.type_numbers.proofs.MethodReadings.{numbers_length, numbers_on, pushed_types, push_one}
-use Rattle.type_numbers.proofs.SpelledMethods.{few_parameters, first_begins, others_follow}
+use Rattle.type_numbers.proofs.SpelledMethods.{first_begins, others_follow}
 
 -- some of the types have their numbers after the row, and the bytes begin with the others
 pub record ArePushing (s : Numbering) (row later bytes : List ℕ) (types : List FieldDescriptor) (rest : List ℕ) : Type 0 where

@@ -1,15 +1,14 @@
 -- The types in front of a ')', and the result after it.
-use Rattle.std.proofs.Common.{◌≡◌, ℕ, ◌≤◌, ◌+◌, Bool, true, false, ltb, List, [], ◌∷◌, ◌++◌, length, drop, Option, Some, None, Ok, is_some, refl, sym, ap, subst, ◌∙◌, append_assoc, arith}
-use Rattle.std.specs.List.{AllByRecursion, flat_map, list_any, sum_by}
+use Rattle.std.proofs.Common.{◌≡◌, ℕ, ◌≤◌, ◌+◌, Bool, true, false, List, [], ◌∷◌, ◌++◌, length, drop, Option, Some, None, Ok, is_some, refl, sym, ap, ◌∙◌, append_assoc, arith}
+use Rattle.std.specs.List.{flat_map, list_any}
 use Rattle.std.proofs.lemmas.Bool.{ltb-false, or_parts}
 use Rattle.std.proofs.lemmas.List.{append-nil}
 use Rattle.std.proofs.lemmas.List.Folds.{list_any-append}
-use Rattle.names.specs.Descriptors.{FieldDescriptor, MethodDescriptor, dimensions, field_spelling, field_width, method_width, result_spelling, result_types, right_parenthesis}
+use Rattle.names.specs.Descriptors.{FieldDescriptor, MethodDescriptor, dimensions, field_spelling, method_width, result_spelling, result_types, right_parenthesis}
 use Rattle.names.specs.Reading.{is_deep, method_answer}
 use Rattle.names.proofs.AnswerLaws.{method_answered, not_deep, one_method}
 use Rattle.names.proofs.Written.{many_are_wide}
 use Rattle.type_numbers.specs.private.SpelledTypes.{AreInFront, BeginsWith, IsResult}
-use Rattle.type_numbers.proofs.SpelledTypes.{same_others}
 
 -- the first of the types, and the others
 pub first_begins : (bytes rest : List ℕ) (t : FieldDescriptor) (types : List FieldDescriptor) → AreInFront bytes (t ∷ types) rest → BeginsWith bytes t (flat_map field_spelling types ++ right_parenthesis ∷ rest)

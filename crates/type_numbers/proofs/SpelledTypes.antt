@@ -1,11 +1,11 @@
 -- The types that bytes are known to begin with, as they are found.
-use Rattle.std.proofs.Common.{◌≡◌, ℕ, suc, ◌+◌, ◌≤◌, ◌==◌, Bool, true, false, eqb, not, List, [], ◌∷◌, ◌++◌, length, take, drop, add-one, Option, Some, None, IsSomeAnd, refl, sym, ap, subst, ◌∙◌, append_assoc, inl, inr, arith}
+use Rattle.std.proofs.Common.{◌≡◌, ℕ, ◌+◌, ◌==◌, Bool, true, false, eqb, not, List, [], ◌∷◌, ◌++◌, length, take, drop, add-one, Option, Some, None, refl, sym, ap, subst, ◌∙◌, append_assoc, inl, inr, arith}
 use Rattle.std.specs.List.{prefix_len, position_or_len}
-use Rattle.std.proofs.lemmas.Bool.{cases_Bool, and_parts, eqb-true, cond-true, cond-false, false≢true}
+use Rattle.std.proofs.lemmas.Bool.{cases_Bool, and_parts, eqb-true, cond-true, false≢true}
 use Rattle.names.specs.declared.base.Primitive.{Primitive}
 use Rattle.names.specs.declared.base.Primitive.TheVariants.{Byte, Char, Double, Float, Int, Long, Short, Boolean}
 use Rattle.names.specs.Names.{slash, semicolon, bracket, IsClassName}
-use Rattle.names.specs.Descriptors.{FieldDescriptor, primitive, class, array, letter, class_letter, dimensions, dimensioned, field_spelling, right_parenthesis, IsWellNamed}
+use Rattle.names.specs.Descriptors.{FieldDescriptor, primitive, class, array, letter, class_letter, dimensions, dimensioned, field_spelling, IsWellNamed}
 use Rattle.names.specs.Reading.{goes_on, ends_class_name, primitive_of}
 use Rattle.names.proofs.ClassNameLaws.{class_name_ends}
 use Rattle.type_numbers.specs.private.SpelledTypes.{BeginsWith, BeginsWithBase}

@@ -1,6 +1,5 @@
-use Rattle.std.proofs.Common.{◌∙◌, [], Bool, Option, ap, sym, subst, Some, None, option_map}
+use Rattle.std.proofs.Common.{[], Bool, Option, sym, subst, Some, None, option_map}
 use Rattle.names.specs.Descriptors.{FieldDescriptor}
-use Rattle.names.specs.Types.{type_of}
 use Rattle.frames.specs.Slots.{descriptor_type}
 use Rattle.type_numbers.specs.Numbers.{IsNumber, IsNumberOf}
 use Rattle.type_numbers.specs.private.SpelledTypes.{IsResult}

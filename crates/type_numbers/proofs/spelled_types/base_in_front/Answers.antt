@@ -1,4 +1,4 @@
-use Rattle.std.proofs.Common.{◌≡◌, ◌∙◌, sym, ap}
+use Rattle.std.proofs.Common.{◌∙◌, sym, ap}
 use Rattle.names.specs.Descriptors.{class, primitive}
 use Rattle.type_numbers.proofs.SpelledTypes.{class_begins, letter_begins, some_begins, same_primitive, no_primitive}
 use Rattle.type_numbers.proofs.spelled_types.base_in_front.Goals as goal

@@ -1,4 +1,4 @@
-use Rattle.std.proofs.Common.{◌∙◌, sym, ap, not, eq-eqb, arith, get_or}
+use Rattle.std.proofs.Common.{sym, ap, not, eq-eqb, arith, get_or}
 use Rattle.std.proofs.lemmas.List.Sums.{prefix_len_is}
 use Rattle.type_numbers.specs.private.SpelledTypes.{is_other}
 use Rattle.type_numbers.proofs.spelled_types.before_semicolon.Goals as goal

@@ -1,5 +1,5 @@
-use Rattle.std.proofs.Common.{◌≡◌, ◌∙◌, ◌∷◌, sym, List, ℕ}
-use Rattle.names.specs.Names.{IsClassName, semicolon}
+use Rattle.std.proofs.Common.{◌∙◌, sym}
+use Rattle.names.specs.Names.{semicolon}
 use Rattle.type_numbers.proofs.SpelledTypes.{name_found, same_others, nothing_found}
 use Rattle.type_numbers.proofs.spelled_types.class_in_front.Goals as goal
 

@@ -1,4 +1,4 @@
-use Rattle.std.proofs.Common.{◌≡◌, ◌∙◌, ap, arith, ℕ}
+use Rattle.std.proofs.Common.{◌∙◌, ap, arith, ℕ}
 use Rattle.names.specs.Descriptors.{dimensioned}
 use Rattle.type_numbers.proofs.SpelledTypes.{base_in, base_begins, brackets_counted, dimensions_back}
 use Rattle.type_numbers.proofs.spelled_types.type_in_front.Goals as goal

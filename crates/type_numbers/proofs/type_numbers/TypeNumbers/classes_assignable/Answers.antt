@@ -1,4 +1,4 @@
-use Rattle.std.proofs.Common.{◌≡◌, ◌∙◌, ◌&&◌, nat_eq, Some, sym, ap}
+use Rattle.std.proofs.Common.{◌∙◌, ◌&&◌, nat_eq, Some, sym, ap}
 use Rattle.frames.specs.Assignable.{type_answer}
 use Rattle.type_numbers.proofs.PlacedClasses.{class_placed}
 use Rattle.type_numbers.proofs.type_numbers.TypeNumbers.classes_assignable.Goals as goal

@@ -1,5 +1,5 @@
 use Rattle.std.proofs.Common.{◌≡◌, Some, sym, subst}
-use Rattle.hierarchy.specs.Answer.{SubclassAnswer, yes, yes_if, subclass_answer}
+use Rattle.hierarchy.specs.Answer.{SubclassAnswer, yes, yes_if}
 use Rattle.hierarchy.specs.Places.{place_in}
 use Rattle.hierarchy.proofs.Subclass.{one_answer}
 use Rattle.frames.specs.Assignable.{class_answer}

@@ -17,10 +17,10 @@ returns-then-parts-gt0 g c = λ s r name same a b e.
     let flat = class_flat s c.args.class r.class a in
     absurd (grind (arith, nat_tests, flat, c.of-parts.ensures.dims, c.if-parts-gt0.true))
 
-pub returns-then-own_parts-eq7 : goal.returns-then-own_parts-eq7
-returns-then-own_parts-eq7 g c = λ s r name same a b e.
-    let tag : c.args.class / 16777216 ≡ 7 = grind (arith, nat_tests, c.of-parts.ensures.tag, c.if-parts-eq7.true) in
-    let own_tag : c.args.own / 16777216 ≡ 7 = grind (arith, nat_tests, c.of-own_parts.ensures.tag, c.if-own_parts-eq7.true) in
+pub returns-then-own_parts-eq-CLASS : goal.returns-then-own_parts-eq-CLASS
+returns-then-own_parts-eq-CLASS g c = λ s r name same a b e.
+    let tag : c.args.class / 16777216 ≡ 7 = grind (arith, nat_tests, c.of-parts.ensures.tag, c.if-parts-eq-CLASS.true) in
+    let own_tag : c.args.own / 16777216 ≡ 7 = grind (arith, nat_tests, c.of-own_parts.ensures.tag, c.if-own_parts-eq-CLASS.true) in
     let answer =
     subst (λ (cs : List ClassFact). (x y : List ℕ) → place_in cs x ≡ Some c.of-own_parts.result.rest → place_in cs y ≡ Some c.of-parts.result.rest → SubclassAnswer cs x y (yes_if c.is_below.result))
     (sym same) c.is_below.ensures in
