@@ -125,7 +125,7 @@ const REFERENCES: [MemberRef<'static>; 12] = [
     field_of!(OBJECT, b"x"),
 ];
 
-/// What a class refers to, and which of that is guarded.
+/// The references of a class, and which of them are guarded.
 struct Expected<'e> {
     class: &'e [u8],
     references: &'e [MemberRef<'e>],
@@ -179,7 +179,7 @@ fn guarded_members(rt: HostRuntime) {
     assert!(rt; are_guarded(rt.alloc(), &ALL_KINDS) == Ok(true));
 }
 
-/// What one field that a class asks of one above is expected to be.
+/// A class that asks one above it for a field, and whether the field is guarded.
 macro_rules! expected {
     ($class:expr, $above:expr, $name:expr, $guarded:expr) => {
         Expected {
