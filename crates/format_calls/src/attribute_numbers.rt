@@ -1,6 +1,7 @@
-use crate::making::K;
-use classfile::{Attribute, AttributeLayout, ClassAttribute, Column, Numbers, decode, encode};
-use layout::WriteFault;
+use crate::making::{K, is_spelled};
+use classfile::{
+    Attribute, AttributeLayout, ClassAttribute, ClassFile, Column, Numbers, decode, encode,
+};
 use std::alloc::{AllocError, Global};
 use std::test::*;
 
@@ -48,19 +49,32 @@ static DEPRECATED: AttributeLayout<'static> = AttributeLayout {
 /// Two rows of four columns.
 const INNER: [u8; 18] = [0, 2, 0, 1, 0, 0, 0, 3, 0, 9, 1, 4, 0, 5, 0, 0, 0, 1];
 
+/// Rows, columns, and the number that stands there, if one does.
+const CELLS: [(u16, usize, Option<u16>); 6] = [
+    (0, 0, Some(1)),
+    (0, 3, Some(9)),
+    (1, 0, Some(260)),
+    (1, 3, Some(1)),
+    (1, 4, None),
+    (2, 0, None),
+];
+
+fn has_cells(numbers: &Numbers<'_>, cells: &[(u16, usize, Option<u16>)]) -> bool {
+    for (row, column, number) in cells {
+        if numbers.get(*row, *column) != *number {
+            return false;
+        }
+    }
+    true
+}
+
 #[test]
 fn rows_and_columns(rt: HostRuntime) {
     let numbers = Numbers {
         layout: &INNER_CLASSES,
         body: &INNER,
     };
-    assert!(rt; numbers.rows() == 2);
-    assert!(rt; numbers.get(0, 0) == Some(1));
-    assert!(rt; numbers.get(0, 3) == Some(9));
-    assert!(rt; numbers.get(1, 0) == Some(260));
-    assert!(rt; numbers.get(1, 3) == Some(1));
-    assert!(rt; numbers.get(1, 4).is_none());
-    assert!(rt; numbers.get(2, 0).is_none());
+    assert!(rt; numbers.rows() == 2 && has_cells(&numbers, &CELLS));
 }
 
 /// Where no count stands before the rows there is one, of as many numbers as there are columns.
@@ -70,15 +84,12 @@ fn one_row(rt: HostRuntime) {
         layout: &NEST_HOST,
         body: &[1, 2],
     };
-    assert!(rt; host.rows() == 1);
-    assert!(rt; host.get(0, 0) == Some(258));
-    assert!(rt; host.get(1, 0).is_none());
+    assert!(rt; host.rows() == 1 && has_cells(&host, &[(0, 0, Some(258)), (1, 0, None)]));
     let mark = Numbers {
         layout: &DEPRECATED,
         body: &[],
     };
-    assert!(rt; mark.rows() == 1);
-    assert!(rt; mark.get(0, 0).is_none());
+    assert!(rt; mark.rows() == 1 && mark.get(0, 0).is_none());
 }
 
 /// The class file of K in this version, with this text at 8.
@@ -98,11 +109,7 @@ fn with_text(alloc: Global, major: u8, text: &[u8]) -> Result<Vec<u8>, AllocErro
 fn is_written<'a>(alloc: Global, bytes: &'a [u8], attribute: ClassAttribute<'a>) -> Option<bool> {
     let mut class = decode(alloc, bytes).ok()?;
     class.attributes.push(attribute).ok()?;
-    match encode(alloc, &class) {
-        Ok(_) => Some(true),
-        Err(WriteFault::HasNoSpelling) => Some(false),
-        Err(_) => None,
-    }
+    is_spelled(encode(alloc, &class))
 }
 
 /// These bytes as numbers of a layout, under the name at 8.
@@ -117,36 +124,46 @@ fn raw<'a>(body: &'a [u8]) -> ClassAttribute<'a> {
     ClassAttribute::Raw { name: 8, body }
 }
 
+/// Whether K of this version, with this text at 8, is written with one more attribute, which is that text's; nothing
+/// where memory runs out.
+fn is_written_in(
+    alloc: Global,
+    major: u8,
+    text: &[u8],
+    attribute: ClassAttribute<'_>,
+) -> Option<bool> {
+    let bytes = with_text(alloc, major, text).ok()?;
+    is_written(alloc, &bytes, attribute)
+}
+
 /// An attribute of numbers is written under its name, from its version on, with as many numbers as it has.
 #[test]
 fn numbers_are_written(rt: HostRuntime) {
-    let alloc = rt.alloc();
-    let host = with_text(alloc, 55, b"NestHost").expect(&rt, "memory");
-    assert!(rt; is_written(alloc, &host, numbers(&NEST_HOST, &[0, 1])) == Some(true));
-    assert!(rt; is_written(alloc, &host, numbers(&NEST_HOST, &[1])) == Some(false));
-    assert!(rt; is_written(alloc, &host, numbers(&DEPRECATED, &[])) == Some(false));
-    let older = with_text(alloc, 54, b"NestHost").expect(&rt, "memory");
-    assert!(rt; is_written(alloc, &older, numbers(&NEST_HOST, &[0, 1])) == Some(false));
-    let other = with_text(alloc, 55, b"NestHos").expect(&rt, "memory");
-    assert!(rt; is_written(alloc, &other, numbers(&NEST_HOST, &[0, 1])) == Some(false));
+    let (alloc, host) = (rt.alloc(), b"NestHost".as_slice());
+    assert!(rt; is_written_in(alloc, 55, host, numbers(&NEST_HOST, &[0, 1])) == Some(true));
+    assert!(rt; is_written_in(alloc, 55, host, numbers(&NEST_HOST, &[1])) == Some(false));
+    assert!(rt; is_written_in(alloc, 55, host, numbers(&DEPRECATED, &[])) == Some(false));
+    assert!(rt; is_written_in(alloc, 54, host, numbers(&NEST_HOST, &[0, 1])) == Some(false));
+    assert!(rt; is_written_in(alloc, 55, b"NestHos", numbers(&NEST_HOST, &[0, 1])) == Some(false));
 }
 
-/// Under the name of an attribute of numbers nothing else is written.
+/// Versions, texts, bytes, and whether these are written as they are under that name: nothing else than numbers is
+/// where it is the name of an attribute of numbers.
+const RAW: [(u8, &[u8], &[u8], bool); 3] = [
+    (55, b"NestHost", &[0, 1], false),
+    (54, b"NestHost", &[0, 1], true),
+    (52, b"Exceptions", &[0, 0], true),
+];
+
 #[test]
 fn raw_bytes_under_such_a_name(rt: HostRuntime) {
-    let alloc = rt.alloc();
-    let host = with_text(alloc, 55, b"NestHost").expect(&rt, "memory");
-    assert!(rt; is_written(alloc, &host, raw(&[0, 1])) == Some(false));
-    let older = with_text(alloc, 54, b"NestHost").expect(&rt, "memory");
-    assert!(rt; is_written(alloc, &older, raw(&[0, 1])) == Some(true));
-    let elsewhere = with_text(alloc, 52, b"Exceptions").expect(&rt, "memory");
-    assert!(rt; is_written(alloc, &elsewhere, raw(&[0, 0])) == Some(true));
+    for (major, text, body, expected) in &RAW {
+        assert!(rt; is_written_in(rt.alloc(), *major, *text, raw(*body)) == Some(*expected));
+    }
 }
 
-/// K with the thrown class at 1 in the Exceptions of its method, as bytes.
-fn throwing(alloc: Global) -> Option<Vec<u8>> {
-    let bytes = with_text(alloc, 52, b"Exceptions").ok()?;
-    let mut class = decode(alloc, &bytes).ok()?;
+/// Puts an Exceptions with the thrown class at 1 into the first method of a class; nothing where memory runs out.
+fn throw(class: &mut ClassFile<'_>) -> Option<()> {
     let attribute = Attribute::Numbers {
         name: 8,
         numbers: Numbers {
@@ -154,7 +171,14 @@ fn throwing(alloc: Global) -> Option<Vec<u8>> {
             body: &[0, 1, 0, 1],
         },
     };
-    class.methods.first_mut()?.attributes.push(attribute).ok()?;
+    class.methods.first_mut()?.attributes.push(attribute).ok()
+}
+
+/// K with the thrown class at 1 in the Exceptions of its method, as bytes.
+fn throwing(alloc: Global) -> Option<Vec<u8>> {
+    let bytes = with_text(alloc, 52, b"Exceptions").ok()?;
+    let mut class = decode(alloc, &bytes).ok()?;
+    throw(&mut class)?;
     encode(alloc, &class).ok()
 }
 
@@ -166,11 +190,16 @@ fn first_number(attribute: &Attribute<'_>) -> Option<u16> {
     }
 }
 
+/// The class that the first method throws.
+fn thrown(class: &ClassFile<'_>) -> Option<u16> {
+    first_number(class.methods.first()?.attributes.last()?)
+}
+
 /// The class that the method of K throws, once it is written and read; nothing where memory runs out.
 fn thrown_again(alloc: Global) -> Option<u16> {
     let bytes = throwing(alloc)?;
     let class = decode(alloc, &bytes).ok()?;
-    first_number(class.methods.first()?.attributes.last()?)
+    thrown(&class)
 }
 
 #[test]
@@ -178,18 +207,27 @@ fn numbers_both_ways(rt: HostRuntime) {
     assert!(rt; thrown_again(rt.alloc()) == Some(1));
 }
 
-/// The first class that K permits, where its one attribute has this name and body; 0 where it permits none.
-fn permitted(alloc: Global, major: u8, name: &[u8]) -> Option<u16> {
-    let mut bytes = with_text(alloc, major, name).ok()?;
-    *bytes.last_mut()? = 1;
-    bytes
-        .extend_from_slice(&[0, 8, 0, 0, 0, 4, 0, 1, 0, 3])
-        .ok()?;
-    let class = decode(alloc, &bytes).ok()?;
+/// K with one attribute, which has this name and permits the class at 3, as bytes.
+fn permitting(alloc: Global, major: u8, name: &[u8]) -> Result<Vec<u8>, AllocError> {
+    let mut bytes = with_text(alloc, major, name)?;
+    bytes.pop();
+    bytes.extend_from_slice(&[1, 0, 8, 0, 0, 0, 4, 0, 1, 0, 3])?;
+    Ok(bytes)
+}
+
+/// The first class that the first attribute permits; 0 where it permits none.
+fn first_permitted(class: &ClassFile<'_>) -> Option<u16> {
     match class.attributes.first()?.permitted_subclasses() {
         Some(numbers) => numbers.get(0, 0),
         None => Some(0),
     }
+}
+
+/// The first class that K permits, where its one attribute has this name; 0 where it permits none.
+fn permitted(alloc: Global, major: u8, name: &[u8]) -> Option<u16> {
+    let bytes = permitting(alloc, major, name).ok()?;
+    let class = decode(alloc, &bytes).ok()?;
+    first_permitted(&class)
 }
 
 #[test]

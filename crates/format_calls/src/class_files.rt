@@ -1,4 +1,4 @@
-use crate::making::{K, are_written};
+use crate::making::{K, are_written, is_spelled};
 use classfile::{
     Attribute, ClassAttribute, ClassFile, CodeAttr, Component, NestedAttribute, body_spells_rows,
     class_or_fault, decode, encode, formed_has_names, formed_or_faulty, least_rule_is_told,
@@ -112,29 +112,33 @@ fn refused_to_write(rt: HostRuntime) {
     assert!(rt; write_fault(alloc, 51, 65_536) == Some(WriteFault::DoesNotFit));
 }
 
-/// K with an attribute of the class, or of its method, that is named `Code` and whose body is none.
-fn with_raw_code(alloc: Global, of_method: bool) -> Option<ClassFile<'static>> {
+/// Gives the class an attribute that is named `Code` and whose body is none; nothing where memory runs out.
+fn add_to_class(class: &mut ClassFile<'_>) -> Option<()> {
     let (name, body) = (7, [1, 2].as_slice());
-    let mut class = decode(alloc, &K).ok()?;
-    if of_method {
-        let method = class.methods.first_mut()?;
-        method.attributes.clear();
-        method.attributes.push(Attribute::Raw { name, body }).ok()?;
-    } else {
-        let raw = ClassAttribute::Raw { name, body };
-        class.attributes.push(raw).ok()?;
-    }
-    Some(class)
+    class
+        .attributes
+        .push(ClassAttribute::Raw { name, body })
+        .ok()
 }
 
-/// Whether that class is written, or no bytes spell it; nothing where memory runs out.
+/// Gives its first method no other attribute than such a one; nothing where memory runs out.
+fn add_to_method(class: &mut ClassFile<'_>) -> Option<()> {
+    let (name, body) = (7, [1, 2].as_slice());
+    let method = class.methods.first_mut()?;
+    method.attributes.clear();
+    method.attributes.push(Attribute::Raw { name, body }).ok()
+}
+
+/// Whether K with such an attribute of the class, or of its method, is written, or no bytes spell it; nothing where
+/// memory runs out.
 fn is_raw_written(alloc: Global, of_method: bool) -> Option<bool> {
-    let class = with_raw_code(alloc, of_method)?;
-    match encode(alloc, &class) {
-        Ok(_) => Some(true),
-        Err(WriteFault::HasNoSpelling) => Some(false),
-        Err(_) => None,
+    let mut class = decode(alloc, &K).ok()?;
+    if of_method {
+        add_to_method(&mut class)?;
+    } else {
+        add_to_class(&mut class)?;
     }
+    is_spelled(encode(alloc, &class))
 }
 
 /// A Code attribute may not be written raw where it would be read by field.
@@ -194,11 +198,7 @@ fn memory_runs_out_in_a_record(rt: HostRuntime) {
 fn is_record_written(alloc: Global, major: u16) -> Option<bool> {
     let mut class = decode(alloc, &RECORD).ok()?;
     class.major_version = major;
-    match encode(alloc, &class) {
-        Ok(_) => Some(true),
-        Err(WriteFault::HasNoSpelling) => Some(false),
-        Err(_) => None,
-    }
+    is_spelled(encode(alloc, &class))
 }
 
 /// A Record is read by field from major version 60 on, so below it no bytes spell one that is.

@@ -55,26 +55,34 @@ fn are_called(list: &[(u16, Insn<'_>)], first: &str, third: &str) -> bool {
     }
 }
 
+/// Three loads of local variable 1, and a branch to the first.
+const LOADS: [u8; 10] = [0x1B, 0x15, 1, 0xC4, 0x15, 0, 1, 0xA7, 0xFF, 0xF9];
+
+/// Offsets in that code, and whether an instruction begins there.
+const STARTS: [(u16, bool); 7] = [
+    (0, true),
+    (1, true),
+    (2, false),
+    (3, true),
+    (5, false),
+    (7, true),
+    (10, false),
+];
+
+fn are_starts(list: &[(u16, Insn<'_>)], rows: &[(u16, bool)]) -> bool {
+    for (at, start) in rows {
+        if is_start(list, *at) != *start {
+            return false;
+        }
+    }
+    true
+}
+
 #[test]
 fn three_forms_of_one_act(rt: HostRuntime) -> Result<(), Fail> {
-    let list = decode_code(
-        rt.alloc(),
-        &[0x1B, 0x15, 1, 0xC4, 0x15, 0, 1, 0xA7, 0xFF, 0xF9],
-    )?;
-    assert!(rt; is_three_loads(&list));
-    assert!(rt; are_called(&list, "iload_1", "iload"));
-    for (at, start) in [
-        (0, true),
-        (1, true),
-        (2, false),
-        (3, true),
-        (5, false),
-        (7, true),
-        (10, false),
-    ] {
-        assert!(rt; is_start(&list, at) == start);
-    }
-    assert!(rt; !is_start(&[], 0));
+    let list = decode_code(rt.alloc(), &LOADS)?;
+    assert!(rt; is_three_loads(&list) && are_called(&list, "iload_1", "iload"));
+    assert!(rt; are_starts(&list, &STARTS) && !is_start(&[], 0));
     Ok(())
 }
 
@@ -108,13 +116,17 @@ fn is_next(reader: &mut Instructions<'_>, at: usize, opcode: Opcode) -> bool {
     matches!(reader.next(), Some(Ok((start, insn))) if start == at && insn.opcode == opcode)
 }
 
+/// An instruction, one with an operand, and a byte that is not an opcode.
+fn are_next(reader: &mut Instructions<'_>) -> bool {
+    is_next(reader, 0, Opcode::Iconst0)
+        && is_next(reader, 1, Opcode::Bipush)
+        && matches!(reader.next(), Some(Err(CodeFault::BadOpcode { at: 3 })))
+        && reader.next().is_none()
+}
+
 #[test]
 fn instructions_one_by_one(rt: HostRuntime) {
-    let mut reader = Instructions::new(&[0x03, 0x10, 7, 0xCA, 0xB1]);
-    assert!(rt; is_next(&mut reader, 0, Opcode::Iconst0));
-    assert!(rt; is_next(&mut reader, 1, Opcode::Bipush));
-    assert!(rt; matches!(reader.next(), Some(Err(CodeFault::BadOpcode { at: 3 }))));
-    assert!(rt; reader.next().is_none());
+    assert!(rt; are_next(&mut Instructions::new(&[0x03, 0x10, 7, 0xCA, 0xB1])));
     assert!(rt; Instructions::new(&[]).next().is_none());
 }
 
@@ -158,32 +170,39 @@ fn instructions_by_what_they_mean(rt: HostRuntime) {
     assert!(rt; first_act(rt.alloc(), &[]).is_none());
 }
 
+/// Whether the next instruction begins there, and makes an object of the class at this index, if it is a `new`.
+fn starts_at(code: &mut Instructions<'_>, at: usize, made: Option<u16>) -> bool {
+    match code.next_start() {
+        Some(Ok(start)) => start == (at, made),
+        _ => false,
+    }
+}
+
 /// The code is `iconst_0`, `iload 1`, `new` of constant 2 and a byte that is not an opcode.
+fn has_starts(code: &mut Instructions<'_>) -> bool {
+    starts_at(code, 0, None)
+        && starts_at(code, 1, None)
+        && starts_at(code, 3, Some(2))
+        && matches!(code.next_start(), Some(Err(CodeFault::BadOpcode { at: 6 })))
+        && code.next_start().is_none()
+}
+
 #[test]
 fn instructions_by_where_they_begin(rt: HostRuntime) {
-    let mut starts = Instructions::new(&[0x03, 0x15, 1, 0xBB, 0, 2, 0xCA]);
-    assert!(rt; matches!(starts.next_start(), Some(Ok((0, None)))));
-    assert!(rt; matches!(starts.next_start(), Some(Ok((1, None)))));
-    assert!(rt; matches!(starts.next_start(), Some(Ok((3, Some(2))))));
-    assert!(rt;
-        matches!(
-            starts.next_start(),
-            Some(Err(CodeFault::BadOpcode { at: 6 }))
-        )
-    );
-    assert!(rt; starts.next_start().is_none());
+    assert!(rt; has_starts(&mut Instructions::new(&[0x03, 0x15, 1, 0xBB, 0, 2, 0xCA])));
+}
+
+/// Whether the next instruction is skipped, or not, and the reader is then at this offset.
+fn skips(code: &mut Instructions<'_>, skipped: bool, at: usize) -> bool {
+    code.skip_unconstrained() == skipped && code.at() == at
 }
 
 /// The code is `iconst_0`, `iload 1` and `new` of constant 2, and then `sipush` without its second byte.
 #[test]
 fn plain_instructions_are_skipped(rt: HostRuntime) {
     let mut code = Instructions::new(&[0x03, 0x15, 1, 0xBB, 0, 2]);
-    assert!(rt; code.skip_unconstrained());
-    assert!(rt; code.at() == 1);
-    assert!(rt; code.skip_unconstrained());
-    assert!(rt; code.at() == 3);
-    assert!(rt; !code.skip_unconstrained());
-    assert!(rt; code.at() == 3);
+    assert!(rt; skips(&mut code, true, 1) && skips(&mut code, true, 3));
+    assert!(rt; skips(&mut code, false, 3));
     assert!(rt; !Instructions::new(&[0x11, 0]).skip_unconstrained());
 }
 

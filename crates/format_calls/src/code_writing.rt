@@ -16,17 +16,18 @@ fn read<'a>(alloc: Global, code: &'a [u8]) -> Result<Vec<Insn<'a>>, AllocError> 
 }
 
 /// An instruction of each form that is read by its own rule: operands of all sizes, both switches, and `wide`.
+const CODE: [u8; 84] = [
+    0x10, 0x80, 0x11, 0xFF, 0x7F, 0x12, 9, 0x13, 1, 2, 0x15, 3, 0x84, 1, 0xFF, 0xA7, 0xFF, 0xF0,
+    0xC8, 0xFF, 0xFF, 0xFF, 0xFE, 0xB9, 0, 1, 2, 0, 0xBA, 0, 1, 0, 0, 0xBC, 10, 0xC5, 0, 1, 2,
+    0xAB, 0, 0, 0, 12, 0, 0, 0, 1, 0x80, 0, 0, 0, 0, 0, 0, 4, 0xC4, 0x15, 1, 0, 0xC4, 0x84, 0, 2,
+    0xFF, 0xFE, 0xAA, 7, 0, 0, 0, 19, 0, 0, 0, 0, 0, 0, 0, 0, 0, 0, 0, 4,
+];
+
 #[test]
 fn what_is_read_is_written(rt: HostRuntime) -> Result<(), Fail> {
-    let code = [
-        0x10u8, 0x80, 0x11, 0xFF, 0x7F, 0x12, 9, 0x13, 1, 2, 0x15, 3, 0x84, 1, 0xFF, 0xA7, 0xFF,
-        0xF0, 0xC8, 0xFF, 0xFF, 0xFF, 0xFE, 0xB9, 0, 1, 2, 0, 0xBA, 0, 1, 0, 0, 0xBC, 10, 0xC5, 0,
-        1, 2, 0xAB, 0, 0, 0, 12, 0, 0, 0, 1, 0x80, 0, 0, 0, 0, 0, 0, 4, 0xC4, 0x15, 1, 0, 0xC4,
-        0x84, 0, 2, 0xFF, 0xFE, 0xAA, 7, 0, 0, 0, 19, 0, 0, 0, 0, 0, 0, 0, 0, 0, 0, 0, 4,
-    ];
-    let list = read(rt.alloc(), &code)?;
+    let list = read(rt.alloc(), &CODE)?;
     assert!(rt; list.len() == 16);
-    assert!(rt; are_written(encode_code(rt.alloc(), &list), &code, false));
+    assert!(rt; are_written(encode_code(rt.alloc(), &list), &CODE, false));
     Ok(())
 }
 
@@ -36,69 +37,84 @@ fn is_unspelled(alloc: Global, opcode: Opcode, operands: Operands<'_>) -> bool {
     matches!(encode_code(alloc, &list), Err(WriteFault::HasNoSpelling))
 }
 
-/// `wide` before an instruction with this local variable, and before one with an increment.
-fn wide<'a>(opcode: Opcode) -> [Operands<'a>; 2] {
-    let local = Operands::WideLocal { opcode, local: 1 };
-    let increment = Operands::WideIncrement {
-        opcode,
-        local: 1,
-        by: 1,
-    };
-    [local, increment]
-}
+/// Operands that the opcode does not have; of `wide` an increment of another than `iinc`, and an opcode that it does
+/// not modify.
+const UNSPELLED: [(Opcode, Operands<'static>); 6] = [
+    (Opcode::Nop, Operands::Byte(1)),
+    (Opcode::Iload, Operands::Nothing),
+    (Opcode::Iload, Operands::Constant(1)),
+    (
+        Opcode::Iload,
+        Operands::WideLocal {
+            opcode: Opcode::Iload,
+            local: 1,
+        },
+    ),
+    (
+        Opcode::Wide,
+        Operands::WideIncrement {
+            opcode: Opcode::Iload,
+            local: 1,
+            by: 1,
+        },
+    ),
+    (
+        Opcode::Wide,
+        Operands::WideLocal {
+            opcode: Opcode::Nop,
+            local: 1,
+        },
+    ),
+];
 
 #[test]
 fn what_no_bytes_spell(rt: HostRuntime) {
-    let alloc = rt.alloc();
-    assert!(rt; is_unspelled(alloc, Opcode::Nop, Operands::Byte(1)));
-    assert!(rt; is_unspelled(alloc, Opcode::Iload, Operands::Nothing));
-    assert!(rt; is_unspelled(alloc, Opcode::Iload, Operands::Constant(1)));
-    let [load, no_increment] = wide(Opcode::Iload);
-    assert!(rt; is_unspelled(alloc, Opcode::Iload, load));
-    assert!(rt; is_unspelled(alloc, Opcode::Wide, no_increment));
-    let [nop, _] = wide(Opcode::Nop);
-    assert!(rt; is_unspelled(alloc, Opcode::Wide, nop));
+    for (opcode, operands) in &UNSPELLED {
+        assert!(rt; is_unspelled(rt.alloc(), *opcode, *operands));
+    }
 }
+
+const TABLES: [&[u8]; 5] = [
+    // no padding
+    &[0; 16],
+    // no offsets
+    &[0; 15],
+    // no numbers
+    &[0; 3],
+    &[0, 0, 0, 0, 0, 0, 0, 0, 0, 0, 1, 0, 0, 0, 0],
+    &[
+        0, 0, 0, 0, 0, 0, 0, 0x80, 0, 0, 0, 0x7F, 0xFF, 0xFF, 0xFF, 0, 0, 0, 0,
+    ],
+];
 
 #[test]
 fn tables_that_no_bytes_spell(rt: HostRuntime) {
-    let rows: [&[u8]; 5] = [
-        // no padding
-        &[0; 16],
-        // no offsets
-        &[0; 15],
-        // no numbers
-        &[0; 3],
-        &[0, 0, 0, 0, 0, 0, 0, 0, 0, 0, 1, 0, 0, 0, 0],
-        &[
-            0, 0, 0, 0, 0, 0, 0, 0x80, 0, 0, 0, 0x7F, 0xFF, 0xFF, 0xFF, 0, 0, 0, 0,
-        ],
-    ];
-    for bytes in rows {
-        let operands = Operands::TableSwitch(bytes);
+    for bytes in &TABLES {
+        let operands = Operands::TableSwitch(*bytes);
         assert!(rt; is_unspelled(rt.alloc(), Opcode::Tableswitch, operands));
     }
 }
 
+const PAIRS: [&[u8]; 8] = [
+    // no padding
+    &[0; 8],
+    // no numbers, or no count
+    &[],
+    &[0; 3],
+    &[0; 7],
+    // half a pair that is not counted
+    &[0; 15],
+    &[0, 0, 0, 0, 0, 0, 0, 0, 0, 0, 1],
+    &[0, 0, 0, 0, 0, 0, 0, 0xFF, 0xFF, 0xFF, 0xFF],
+    &[
+        0, 0, 0, 0, 0, 0, 0, 0, 0, 0, 2, 0, 0, 0, 1, 0, 0, 0, 0, 0, 0, 0, 1, 0, 0, 0, 0,
+    ],
+];
+
 #[test]
 fn pairs_that_no_bytes_spell(rt: HostRuntime) {
-    let rows: [&[u8]; 8] = [
-        // no padding
-        &[0; 8],
-        // no numbers, or no count
-        &[],
-        &[0; 3],
-        &[0; 7],
-        // half a pair that is not counted
-        &[0; 15],
-        &[0, 0, 0, 0, 0, 0, 0, 0, 0, 0, 1],
-        &[0, 0, 0, 0, 0, 0, 0, 0xFF, 0xFF, 0xFF, 0xFF],
-        &[
-            0, 0, 0, 0, 0, 0, 0, 0, 0, 0, 2, 0, 0, 0, 1, 0, 0, 0, 0, 0, 0, 0, 1, 0, 0, 0, 0,
-        ],
-    ];
-    for bytes in rows {
-        let operands = Operands::LookupSwitch(bytes);
+    for bytes in &PAIRS {
+        let operands = Operands::LookupSwitch(*bytes);
         assert!(rt; is_unspelled(rt.alloc(), Opcode::Lookupswitch, operands));
     }
 }
@@ -122,27 +138,26 @@ fn length(alloc: Global, list: &[Insn<'_>]) -> Result<usize, WriteFault> {
 
 #[test]
 fn padding_by_the_offset(rt: HostRuntime) {
-    assert!(rt; matches!(length(rt.alloc(), &[SWITCH]), Ok(12)));
-    assert!(rt; matches!(length(rt.alloc(), &[NOP, NOP, NOP, NOP, SWITCH]), Ok(16)));
-    assert!(rt;
-        matches!(
-            length(rt.alloc(), &[NOP, SWITCH]),
-            Err(WriteFault::HasNoSpelling)
-        )
-    );
+    assert!(rt; length(rt.alloc(), &[SWITCH]) == Ok(12));
+    assert!(rt; length(rt.alloc(), &[NOP, NOP, NOP, NOP, SWITCH]) == Ok(16));
+    assert!(rt; length(rt.alloc(), &[NOP, SWITCH]) == Err(WriteFault::HasNoSpelling));
 }
 
-#[test]
-fn no_more_than_a_method_may_have(rt: HostRuntime) -> Result<(), Fail> {
-    let mut list = Vec::new(rt.alloc());
+/// The lengths of as many instructions as a method may have, and of one more, which no bytes spell.
+fn lengths(alloc: Global) -> Result<[Result<usize, WriteFault>; 2], AllocError> {
+    let mut list = Vec::new(alloc);
     list.resize(MAX_CODE_BYTES, NOP)?;
-    assert!(rt; matches!(length(rt.alloc(), &list), Ok(65_535)));
+    let most = length(alloc, &list);
     list.push(Insn {
         opcode: Opcode::Iload,
         operands: Operands::Nothing,
     })?;
-    assert!(rt; matches!(length(rt.alloc(), &list), Err(WriteFault::DoesNotFit)));
-    Ok(())
+    Ok([most, length(alloc, &list)])
+}
+
+#[test]
+fn no_more_than_a_method_may_have(rt: HostRuntime) {
+    assert!(rt; lengths(rt.alloc()) == Ok([Ok(65_535), Err(WriteFault::DoesNotFit)]));
 }
 
 fn is_written_or_memory(alloc: Global) -> bool {

@@ -48,6 +48,15 @@ pub fn are_written(written: Result<Vec<u8>, WriteFault>, expected: &[u8], may_fa
     }
 }
 
+/// Whether it is written, or no bytes spell it; nothing where it is not written for another reason.
+pub fn is_spelled(written: Result<Vec<u8>, WriteFault>) -> Option<bool> {
+    match written {
+        Ok(_) => Some(true),
+        Err(WriteFault::HasNoSpelling) => Some(false),
+        Err(_) => None,
+    }
+}
+
 /// Whether the part is written as these bytes; or memory ran out, where it may, and nothing is written.
 pub fn is_put<'a, P: Part<'a>>(alloc: Global, part: &P, expected: &[u8], may_fail: bool) -> bool {
     let mut out = Vec::new(alloc);

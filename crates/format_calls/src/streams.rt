@@ -74,9 +74,9 @@ fn of_cut(alloc: Global, n: usize, fails: bool, piece: usize) -> Result<Vec<u8>,
 /// The place of the number or part that is not whole where K is cut after its first `n` bytes.
 fn place_of(n: usize) -> usize {
     let mut place = if n < 95 { 0 } else { 95 };
-    for start in STARTS {
-        if start <= n && place < start {
-            place = start;
+    for start in &STARTS {
+        if *start <= n && place < *start {
+            place = *start;
         }
     }
     place
@@ -100,9 +100,9 @@ fn is_cut(alloc: Global, n: usize, piece: usize) -> bool
 
 #[test]
 fn each_cut(rt: HostRuntime) {
-    for piece in PIECES {
+    for piece in &PIECES {
         for n in 0..97 {
-            assert!(rt; is_cut(rt.alloc(), n, piece));
+            assert!(rt; is_cut(rt.alloc(), n, *piece));
         }
     }
 }
@@ -125,8 +125,8 @@ fn leaves_three(alloc: Global, piece: usize, may_fail: bool) -> bool {
 
 #[test]
 fn stops_behind_the_class(rt: HostRuntime) {
-    for piece in PIECES {
-        assert!(rt; leaves_three(rt.alloc(), piece, false));
+    for piece in &PIECES {
+        assert!(rt; leaves_three(rt.alloc(), *piece, false));
     }
 }
 
@@ -163,16 +163,27 @@ fn versions_are_not_looked_at(rt: HostRuntime) {
     assert!(rt; read_class(rt.alloc(), &mut cut(&bytes, 97, false, 7)).is_ok());
 }
 
+/// The front of a class file whose pool has no count, and of one whose last constant takes two indices.
+const UNCOUNTED: [u8; 11] = [0xCA, 0xFE, 0xBA, 0xBE, 0, 0, 0, 0x34, 0, 0, 9];
+
+const TOO_WIDE: [u8; 13] = [0xCA, 0xFE, 0xBA, 0xBE, 0, 0, 0, 0x34, 0, 2, 5, 0, 0];
+
+fn is_uncounted(alloc: Global) -> bool {
+    let answer = read_class(alloc, &mut cut(&UNCOUNTED, 11, false, 2));
+    let (front, _) = UNCOUNTED.split_at(10);
+    is_cut_at(&answer, front, ReadFault::BadPoolCount { at: 8 })
+}
+
+fn is_too_wide(alloc: Global) -> bool {
+    let answer = read_class(alloc, &mut cut(&TOO_WIDE, 13, false, 2));
+    let (front, _) = TOO_WIDE.split_at(11);
+    is_cut_at(&answer, front, ReadFault::BadTag { at: 10, tag: 5 })
+}
+
 #[test]
 fn a_pool_without_a_count(rt: HostRuntime) {
-    let none = [0xCA, 0xFE, 0xBA, 0xBE, 0, 0, 0, 0x34, 0, 0, 9];
-    let answer = read_class(rt.alloc(), &mut cut(&none, 11, false, 2));
-    let (front, _) = none.split_at(10);
-    assert!(rt; is_cut_at(&answer, front, ReadFault::BadPoolCount { at: 8 }));
-    let last = [0xCA, 0xFE, 0xBA, 0xBE, 0, 0, 0, 0x34, 0, 2, 5, 0, 0];
-    let answer = read_class(rt.alloc(), &mut cut(&last, 13, false, 2));
-    let (front, _) = last.split_at(11);
-    assert!(rt; is_cut_at(&answer, front, ReadFault::BadTag { at: 10, tag: 5 }));
+    assert!(rt; is_uncounted(rt.alloc()));
+    assert!(rt; is_too_wide(rt.alloc()));
 }
 
 /// The bytes that are gathered of eight: a number of each size, one byte more, and then the reader fails.

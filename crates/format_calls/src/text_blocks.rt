@@ -45,37 +45,53 @@ fn fault(bytes: &[u8; 100], length: usize) -> Option<usize> {
 
 #[test]
 fn letters_alone(rt: HostRuntime) {
-    for length in LENGTHS {
-        assert!(rt; fault(&[b'a'; 100], length).is_none());
+    for length in &LENGTHS {
+        assert!(rt; fault(&[b'a'; 100], *length).is_none());
     }
+}
+
+/// Whether each wrong part is found at its place after these letters.
+fn are_found(letters: &[u8; 100], length: usize, place: usize) -> bool {
+    for part in &WRONG {
+        let mut bytes = *letters;
+        put(&mut bytes, *part, place);
+        if fault(&bytes, length) != Some(place) {
+            return false;
+        }
+    }
+    true
 }
 
 /// Each wrong part is found at its place, wherever it stands.
 #[test]
 fn wrong_at_each_place(rt: HostRuntime) {
-    for length in LENGTHS {
-        for place in 0..length {
-            for part in WRONG {
-                let mut bytes = [b'a'; 100];
-                put(&mut bytes, part, place);
-                assert!(rt; fault(&bytes, length) == Some(place));
-            }
+    for length in &LENGTHS {
+        for place in 0..*length {
+            assert!(rt; are_found(&[b'a'; 100], *length, place));
         }
     }
+}
+
+/// Whether each longer unit is passed at this place, unless the text ends within it.
+fn are_passed(length: usize, place: usize) -> bool {
+    for (part, size) in &LONGER {
+        let mut bytes = [b'a'; 100];
+        put(&mut bytes, *part, place);
+        let whole = place.saturating_add(*size) <= length;
+        let expected = if whole { None } else { Some(place) };
+        if fault(&bytes, length) != expected {
+            return false;
+        }
+    }
+    true
 }
 
 /// A longer unit is passed wherever it stands, unless the text ends within it.
 #[test]
 fn longer_at_each_place(rt: HostRuntime) {
-    for length in LENGTHS {
-        for place in 0..length {
-            for (part, size) in LONGER {
-                let mut bytes = [b'a'; 100];
-                put(&mut bytes, part, place);
-                let whole = place.saturating_add(size) <= length;
-                let expected = if whole { None } else { Some(place) };
-                assert!(rt; fault(&bytes, length) == expected);
-            }
+    for length in &LENGTHS {
+        for place in 0..*length {
+            assert!(rt; are_passed(*length, place));
         }
     }
 }
@@ -83,14 +99,11 @@ fn longer_at_each_place(rt: HostRuntime) {
 /// After a longer unit at the front a wrong part is found as well.
 #[test]
 fn wrong_behind_a_longer_unit(rt: HostRuntime) {
-    for length in LENGTHS {
-        for place in 3..length {
-            for part in WRONG {
-                let mut bytes = [b'a'; 100];
-                put(&mut bytes, [0xED, 0xA0, 0x80], 0);
-                put(&mut bytes, part, place);
-                assert!(rt; fault(&bytes, length) == Some(place));
-            }
+    let mut letters = [b'a'; 100];
+    put(&mut letters, [0xED, 0xA0, 0x80], 0);
+    for length in &LENGTHS {
+        for place in 3..*length {
+            assert!(rt; are_found(&letters, *length, place));
         }
     }
 }

@@ -117,13 +117,15 @@ fn forms(name: &str) -> (bool, bool, bool) {
     }
 }
 
+const NO_NAMES: [&str; 7] = ["", "/a", "a/", "a//b", "a.b", "a;", "[I"];
+
 #[test]
 fn forms_of_names(rt: HostRuntime) {
     assert!(rt; matches!(forms("run"), (true, true, true)));
     assert!(rt; matches!(forms("java/lang/Object$1"), (true, false, false)));
     assert!(rt; matches!(forms("<clinit>"), (true, true, false)));
-    for none in ["", "/a", "a/", "a//b", "a.b", "a;", "[I"] {
-        assert!(rt; matches!(forms(none), (false, false, false)));
+    for none in &NO_NAMES {
+        assert!(rt; matches!(forms(*none), (false, false, false)));
     }
 }
 
@@ -208,21 +210,25 @@ fn field_fault(descriptor: &[u8]) -> Option<NameFault> {
     }
 }
 
+/// Texts that are no descriptor of a field, and where the first byte stands that is wrong.
+const BAD_FIELDS: [(&str, usize); 10] = [
+    ("", 0),
+    ("L/", 1),
+    ("La//b;", 3),
+    ("L;", 1),
+    ("La.b;", 2),
+    ("La/;", 3),
+    ("La", 2),
+    ("[", 1),
+    ("V", 0),
+    ("II", 1),
+];
+
 #[test]
 fn bad_field_descriptors(rt: HostRuntime) {
-    for (descriptor, at) in [
-        ("", 0),
-        ("L/", 1),
-        ("La//b;", 3),
-        ("L;", 1),
-        ("La.b;", 2),
-        ("La/;", 3),
-        ("La", 2),
-        ("[", 1),
-        ("V", 0),
-        ("II", 1),
-    ] {
-        assert!(rt; field_fault(descriptor.as_bytes()) == Some(NameFault::BadDescriptor { at }));
+    for (descriptor, at) in &BAD_FIELDS {
+        let expected = NameFault::BadDescriptor { at: *at };
+        assert!(rt; field_fault(descriptor.as_bytes()) == Some(expected));
     }
 }
 
@@ -234,21 +240,24 @@ fn method_fault(alloc: Global, descriptor: &[u8], receiver: bool) -> Option<Name
     }
 }
 
+/// Texts that are no descriptor of a method, and where the first byte stands that is wrong.
+const BAD_METHODS: [(&str, usize); 9] = [
+    ("", 0),
+    ("I", 0),
+    ("(", 1),
+    ("(V)V", 1),
+    ("(I", 2),
+    ("([)V", 2),
+    ("()", 2),
+    ("()VV", 3),
+    ("(La;)[V", 6),
+];
+
 #[test]
 fn bad_method_descriptors(rt: HostRuntime) {
-    for (descriptor, at) in [
-        ("", 0),
-        ("I", 0),
-        ("(", 1),
-        ("(V)V", 1),
-        ("(I", 2),
-        ("([)V", 2),
-        ("()", 2),
-        ("()VV", 3),
-        ("(La;)[V", 6),
-    ] {
+    for (descriptor, at) in &BAD_METHODS {
         let fault = method_fault(rt.alloc(), descriptor.as_bytes(), false);
-        assert!(rt; fault == Some(NameFault::BadDescriptor { at }));
+        assert!(rt; fault == Some(NameFault::BadDescriptor { at: *at }));
     }
 }
 
@@ -266,16 +275,18 @@ fn limits(rt: HostRuntime) {
     assert!(rt; method_fault(rt.alloc(), &method, true) == Some(NameFault::TooWide));
 }
 
+const NUMBERS: [(NameFault, u8); 5] = [
+    (NameFault::OutOfMemory, 1),
+    (NameFault::BadText { at: 9 }, 3),
+    (NameFault::BadDescriptor { at: 9 }, 4),
+    (NameFault::TooManyDimensions, 5),
+    (NameFault::TooWide, 6),
+];
+
 #[test]
 fn numbers(rt: HostRuntime) {
-    for (fault, number) in [
-        (NameFault::OutOfMemory, 1),
-        (NameFault::BadText { at: 9 }, 3),
-        (NameFault::BadDescriptor { at: 9 }, 4),
-        (NameFault::TooManyDimensions, 5),
-        (NameFault::TooWide, 6),
-    ] {
-        assert!(rt; fault.number() == number);
+    for (fault, number) in &NUMBERS {
+        assert!(rt; fault.number() == *number);
     }
 }
 
@@ -295,29 +306,33 @@ fn is_field(descriptor: &[u8]) -> bool {
     }
 }
 
+const FIELDS: [&str; 5] = [
+    "J",
+    "[[I",
+    "La;",
+    "Ljava/lang/String;",
+    "[Lsome/package/with/a/name/of/more/bytes/than/the/first/sixty/four/of/a/text;",
+];
+
+const NO_FIELDS: [&str; 10] = [
+    "",
+    "V",
+    "[",
+    "L;",
+    "La",
+    "La/;",
+    "L/a;",
+    "II",
+    "()V",
+    "Ljava/lang//String;",
+];
+
 #[test]
 fn descriptors_of_fields(rt: HostRuntime) {
-    for one in [
-        "J",
-        "[[I",
-        "La;",
-        "Ljava/lang/String;",
-        "[Lsome/package/with/a/name/of/more/bytes/than/the/first/sixty/four/of/a/text;",
-    ] {
+    for one in &FIELDS {
         assert!(rt; is_field(one.as_bytes()));
     }
-    for none in [
-        "",
-        "V",
-        "[",
-        "L;",
-        "La",
-        "La/;",
-        "L/a;",
-        "II",
-        "()V",
-        "Ljava/lang//String;",
-    ] {
+    for none in &NO_FIELDS {
         assert!(rt; !is_field(none.as_bytes()));
     }
 }

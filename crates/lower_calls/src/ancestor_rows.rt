@@ -24,42 +24,56 @@ fn line<'a>(alloc: Global) -> [Summary<'a>; 7] {
 /// Two names, whether the first is the second or stands below it, and how many entries of rows are looked at.
 type Question<'n> = (&'n [u8], &'n [u8], Answer<'n>, u32);
 
-fn check_climbs<'s, 'a, S: BuildHasher>(rt: &impl Abort, rows: &Rows<'s, 'a, S>) {
-    let questions: [Question<'_>; 8] = [
-        (b"C6", b"C1", Answer::Yes, 2),
-        (b"C1", b"C6", Answer::No, 0),
-        (b"B", b"B", Answer::Yes, 0),
-        (b"B", b"C1", Answer::Missing(b"B"), 0),
-        (b"C6", OBJECT, Answer::Yes, 2),
-        (b"C5", b"C1", Answer::Yes, 1),
-        (b"C6", b"C6", Answer::Yes, 0),
-        (b"C6", b"B", Answer::No, 0),
-    ];
+const QUESTIONS: [Question<'static>; 8] = [
+    (b"C6", b"C1", Answer::Yes, 2),
+    (b"C1", b"C6", Answer::No, 0),
+    (b"B", b"B", Answer::Yes, 0),
+    (b"B", b"C1", Answer::Missing(b"B"), 0),
+    (b"C6", OBJECT, Answer::Yes, 2),
+    (b"C5", b"C1", Answer::Yes, 1),
+    (b"C6", b"C6", Answer::Yes, 0),
+    (b"C6", b"B", Answer::No, 0),
+];
+
+fn are_climbed<'s, 'a, S: BuildHasher>(rows: &Rows<'s, 'a, S>, questions: &[Question<'_>]) -> bool {
     for (a, b, expected, looks) in questions {
-        let (answer, looked) = rows.climb(a, b);
-        assert!(rt; answer == expected);
-        assert!(rt; looked == looks);
-        assert!(rt; rows.is_subclass(a, b) == expected);
+        if rows.climb(*a, *b) != (*expected, *looks) || rows.is_subclass(*a, *b) != *expected {
+            return false;
+        }
     }
+    true
+}
+
+/// Whether these are the ancestors of the class at a place of seven, at the distances 2 to the power of these numbers.
+fn has_ancestors<'s, 'a, S: BuildHasher>(
+    rows: &Rows<'s, 'a, S>,
+    place: u16,
+    numbers: [u8; 3],
+    ancestors: [Option<u16>; 3],
+) -> bool
+    requires { place < length rows.now }
+{
+    let mut looks = 0;
+    let [first, second, third] = numbers;
+    let found = [
+        rows.ancestor(place, first, &mut looks),
+        rows.ancestor(place, second, &mut looks),
+        rows.ancestor(place, third, &mut looks),
+    ];
+    found == ancestors && looks == 3
 }
 
 /// Checks the ancestors of seven classes.
 fn check_ancestors<'s, 'a, S: BuildHasher>(rt: &impl Abort, rows: &Rows<'s, 'a, S>)
     requires { 6 < length rows.now }
 {
-    let mut looks = 0;
-    assert!(rt; rows.ancestor(6, 0, &mut looks) == Some(5));
-    assert!(rt; rows.ancestor(6, 1, &mut looks) == Some(4));
-    assert!(rt; rows.ancestor(6, 2, &mut looks) == Some(2));
-    assert!(rt; rows.ancestor(6, 3, &mut looks).is_none());
-    assert!(rt; rows.ancestor(0, 0, &mut looks).is_none());
-    assert!(rt; rows.ancestor(6, 255, &mut looks).is_none());
-    assert!(rt; looks == 6);
+    assert!(rt; has_ancestors(rows, 6, [0, 1, 2], [Some(5), Some(4), Some(2)]));
+    assert!(rt; has_ancestors(rows, 6, [3, 255, 0], [None, None, Some(5)]));
+    assert!(rt; has_ancestors(rows, 0, [0, 0, 0], [None, None, None]));
 }
 
 fn check_found<C: Classes>(rt: &impl Abort, classes: &C) {
-    assert!(rt; classes.find(b"C4").is_some());
-    assert!(rt; classes.find(b"B").is_none());
+    assert!(rt; classes.find(b"C4").is_some() && classes.find(b"B").is_none());
     assert!(rt; matches!(classes.is_interface(b"C4"), Some(false)));
 }
 
@@ -68,7 +82,7 @@ fn a_line_of_classes(rt: HostRuntime) {
     let list = line(rt.alloc());
     match Rows::new(rt.alloc(), &list, hasher()) {
         Ok(rows) => {
-            check_climbs(&rt, &rows);
+            assert!(rt; are_climbed(&rows, &QUESTIONS));
             check_ancestors(&rt, &rows);
             check_found(&rt, &rows);
         }
@@ -76,44 +90,73 @@ fn a_line_of_classes(rt: HostRuntime) {
     }
 }
 
-/// Whether both refuse a list for the same, which is this.
-fn are_refused(alloc: Global, classes: &[Summary<'_>], expected: HierarchyFault<'_>) -> bool {
-    Rows::new(alloc, classes, hasher()).err() == Some(expected)
-        && Chains::new(alloc, classes, hasher()).err() == Some(expected)
+/// The name of a class, that of its superclass, and whether it is an interface.
+type Listed<'a> = (&'a [u8], Option<&'a [u8]>, bool);
+
+fn listed<'a>(alloc: Global, classes: &[Listed<'a>]) -> Result<Vec<Summary<'a>>, AllocError> {
+    let mut list = Vec::new(alloc);
+    for (name, superclass, interface) in classes {
+        list.push(summary(alloc, *name, *superclass, *interface))?;
+    }
+    Ok(list)
 }
+
+const TOP: Listed<'static> = (OBJECT, None, false);
+
+/// Classes, and why they are refused.
+type Refused<'a> = (&'a [Listed<'a>], HierarchyFault<'a>);
+
+/// Whether both refuse the list for that.
+fn is_refused(alloc: Global, refused: &Refused<'_>) -> Result<bool, AllocError> {
+    let list = listed(alloc, refused.0)?;
+    let expected = Some(refused.1);
+    Ok(
+        Rows::new(alloc, &list, hasher()).err() == expected
+            && Chains::new(alloc, &list, hasher()).err() == expected,
+    )
+}
+
+fn are_refused(alloc: Global, rows: &[Refused<'_>]) -> bool {
+    for row in rows {
+        if is_refused(alloc, row) != Ok(true) {
+            return false;
+        }
+    }
+    true
+}
+
+const CLASSES: [Refused<'static>; 4] = [
+    (&[], HierarchyFault::NoObject),
+    (&[TOP, TOP], HierarchyFault::ClassTwice { name: OBJECT }),
+    (
+        &[TOP, (b"A", Some(b"A"), false)],
+        HierarchyFault::Cycle { name: b"A" },
+    ),
+    (
+        &[TOP, (b"A", Some(b"B"), false)],
+        HierarchyFault::SuperMissing { name: b"A" },
+    ),
+];
 
 #[test]
 fn what_is_refused(rt: HostRuntime) {
-    let alloc = rt.alloc();
-    assert!(rt; are_refused(alloc, &[], HierarchyFault::NoObject));
-    let twice = [object(alloc), object(alloc)];
-    assert!(rt; are_refused(alloc, &twice, HierarchyFault::ClassTwice { name: OBJECT }));
-    let cycle = [object(alloc), summary(alloc, b"A", Some(b"A"), false)];
-    assert!(rt; are_refused(alloc, &cycle, HierarchyFault::Cycle { name: b"A" }));
-    let lost = [object(alloc), summary(alloc, b"A", Some(b"B"), false)];
-    assert!(rt; are_refused(alloc, &lost, HierarchyFault::SuperMissing { name: b"A" }));
+    assert!(rt; are_refused(rt.alloc(), &CLASSES));
 }
+
+const INTERFACES: [Refused<'static>; 2] = [
+    (
+        &[TOP, (CLONEABLE, Some(OBJECT), false)],
+        HierarchyFault::BadArrayInterface { name: CLONEABLE },
+    ),
+    (
+        &[TOP, (b"A", Some(OBJECT), false), (b"I", Some(b"A"), true)],
+        HierarchyFault::InterfaceSuper { name: b"I" },
+    ),
+];
 
 #[test]
 fn interfaces_that_are_refused(rt: HostRuntime) {
-    let alloc = rt.alloc();
-    let class = [
-        object(alloc),
-        summary(alloc, CLONEABLE, Some(OBJECT), false),
-    ];
-    assert!(rt;
-        are_refused(
-            alloc,
-            &class,
-            HierarchyFault::BadArrayInterface { name: CLONEABLE }
-        )
-    );
-    let below = [
-        object(alloc),
-        summary(alloc, b"A", Some(OBJECT), false),
-        summary(alloc, b"I", Some(b"A"), true),
-    ];
-    assert!(rt; are_refused(alloc, &below, HierarchyFault::InterfaceSuper { name: b"I" }));
+    assert!(rt; are_refused(rt.alloc(), &INTERFACES));
 }
 
 /// A list of classes is refused 1 where memory runs out, and taken otherwise.
@@ -192,6 +235,21 @@ impl Hasher for OneHash {
     fn write(&mut self, _bytes: &[u8]) {}
 }
 
+/// Two names that stand twice.
+const TWICE: [Listed<'static>; 5] = [
+    TOP,
+    (b"B", Some(OBJECT), false),
+    (b"A", Some(OBJECT), false),
+    (b"A", Some(OBJECT), false),
+    (b"B", Some(OBJECT), false),
+];
+
+/// Whether the second name is the one that is found to stand twice.
+fn is_told_apart(alloc: Global, one: BuildHasherDefault<OneHash>) -> Result<bool, AllocError> {
+    let twice = listed(alloc, &TWICE)?;
+    Ok(Rows::new(alloc, &twice, one).err() == Some(HierarchyFault::ClassTwice { name: b"B" }))
+}
+
 /// Classes with one hash for all names are told apart by the names.
 #[test]
 fn one_hash_for_all_names(rt: HostRuntime) {
@@ -199,16 +257,7 @@ fn one_hash_for_all_names(rt: HostRuntime) {
     let one: BuildHasherDefault<OneHash> = BuildHasherDefault::new();
     // 15 steps, which has four digits 1
     assert!(rt; first_and_last(alloc, 16, true, one) == Some((true, 4)));
-    let twice = [
-        object(alloc),
-        summary(alloc, b"B", Some(OBJECT), false),
-        summary(alloc, b"A", Some(OBJECT), false),
-        summary(alloc, b"A", Some(OBJECT), false),
-        summary(alloc, b"B", Some(OBJECT), false),
-    ];
-    assert!(rt;
-        Rows::new(alloc, &twice, one).err() == Some(HierarchyFault::ClassTwice { name: b"B" })
-    );
+    assert!(rt; is_told_apart(alloc, one) == Ok(true));
 }
 
 /// One class more than there may be.

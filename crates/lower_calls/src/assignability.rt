@@ -1,12 +1,11 @@
-use crate::making::{A, B, array, frame, hasher, setting};
+use crate::making::{A, ARRAY_OF_A, ARRAY_OF_B, B, TABLE_OF_INTS, frame, hasher, setting};
 use frames::{
-    Frame, VType, array_of, assignable, frame_assignable, held_by, laws, number_type, reference_to,
+    VType, array_of, assignable, frame_assignable, held_by, laws, number_type, reference_to,
 };
 use hierarchy::{Answer, Classes, Rows};
 use insn::Kind;
 use names::{Base, FieldType, OBJECT, Primitive, RefType};
 use std::alloc::{AllocError, Global};
-use std::process::Abort;
 use std::test::*;
 
 #[test]
@@ -19,89 +18,101 @@ fn laws_are_called() {
 
 const I: VType<'static> = VType::Class(b"I");
 
+const OBJECTS: VType<'static> = VType::Array {
+    dims: 1,
+    base: Base::Class(OBJECT),
+};
+
+const INTS: VType<'static> = VType::Array {
+    dims: 1,
+    base: Base::Primitive(Primitive::Int),
+};
+
 /// A type, where another is wanted, and the answer.
-fn class_rows<'a>() -> [(VType<'a>, VType<'a>, Answer<'a>); 7] {
-    [
-        (A, I, Answer::Yes),
-        (I, A, Answer::No),
-        (A, B, Answer::Missing(b"B")),
-        (B, A, Answer::Missing(b"B")),
-        (B, VType::Class(OBJECT), Answer::Yes),
-        (VType::Uninit(0), VType::Top, Answer::Yes),
-        (VType::Uninit(0), A, Answer::No),
-    ]
-}
+const TYPES: [(VType<'static>, VType<'static>, Answer<'static>); 11] = [
+    (A, I, Answer::Yes),
+    (I, A, Answer::No),
+    (A, B, Answer::Missing(b"B")),
+    (B, A, Answer::Missing(b"B")),
+    (B, VType::Class(OBJECT), Answer::Yes),
+    (VType::Uninit(0), VType::Top, Answer::Yes),
+    (VType::Uninit(0), A, Answer::No),
+    (ARRAY_OF_B, OBJECTS, Answer::Yes),
+    (ARRAY_OF_B, ARRAY_OF_A, Answer::Missing(b"B")),
+    (TABLE_OF_INTS, OBJECTS, Answer::Yes),
+    (INTS, OBJECTS, Answer::No),
+];
 
-/// Types of arrays, and the answers.
-fn array_rows<'a>() -> [(VType<'a>, VType<'a>, Answer<'a>); 4] {
-    let objects = array(1, Base::Class(OBJECT));
-    let bs = array(1, Base::Class(b"B"));
-    let ints = Base::Primitive(Primitive::Int);
-    [
-        (bs, objects, Answer::Yes),
-        (bs, array(1, Base::Class(b"A")), Answer::Missing(b"B")),
-        (array(2, ints), objects, Answer::Yes),
-        (array(1, ints), objects, Answer::No),
-    ]
-}
-
-fn check_types<C: Classes>(rt: &impl Abort, classes: &C) {
-    for (from, to, expected) in class_rows() {
-        assert!(rt; assignable(&from, &to, classes) == expected);
+fn are_assignable<C: Classes>(classes: &C, rows: &[(VType<'_>, VType<'_>, Answer<'_>)]) -> bool {
+    for (from, to, expected) in rows {
+        if assignable(from, to, classes) != *expected {
+            return false;
+        }
     }
-    for (from, to, expected) in array_rows() {
-        assert!(rt; assignable(&from, &to, classes) == expected);
-    }
+    true
 }
 
 #[test]
 fn types(rt: HostRuntime) {
     let list = setting(rt.alloc());
     match Rows::new(rt.alloc(), &list, hasher()) {
-        Ok(classes) => check_types(&rt, &classes),
+        Ok(classes) => assert!(rt; are_assignable(&classes, &TYPES)),
         Err(_) => panic!(rt; "a hierarchy"),
     }
 }
 
-/// The types of a frame's local variables or stack, those of a wanted one, and the answer.
-type Row<'s, 'a> = (&'s [VType<'a>], &'s [VType<'a>], Answer<'a>);
+/// The types of a frame's local variables and stack, and its flag that tells of an uninitialized `this`.
+type Parts<'a> = (&'a [VType<'a>], &'a [VType<'a>], bool);
 
-/// True where this is the answer on two frames, of which the second is wanted, or memory ran out.
-fn is_answered<'a, C: Classes>(
-    from: Result<Frame<'a>, AllocError>,
-    to: Result<Frame<'a>, AllocError>,
-    classes: &C,
-    expected: Answer<'a>,
-) -> bool {
-    match (from, to) {
-        (Ok(from), Ok(to)) => frame_assignable(&from, &to, classes) == expected,
-        _ => false,
-    }
+/// The parts of a frame, those of a wanted one, and the answer.
+type Row<'a> = (Parts<'a>, Parts<'a>, Answer<'a>);
+
+/// Stacks; local variables; and frames with and without the flag.
+const FRAMES: [Row<'static>; 8] = [
+    ((&[], &[VType::Int], false), (&[], &[A], false), Answer::No),
+    (
+        (&[], &[VType::Null], false),
+        (&[], &[A], false),
+        Answer::Yes,
+    ),
+    (
+        (&[], &[VType::Long], false),
+        (&[], &[VType::Top], false),
+        Answer::No,
+    ),
+    (
+        (&[], &[A, VType::Int], false),
+        (&[], &[B, A], false),
+        Answer::No,
+    ),
+    (
+        (&[], &[A, A], false),
+        (&[], &[A, B], false),
+        Answer::Missing(b"B"),
+    ),
+    (
+        (&[VType::Long, VType::Top], &[], false),
+        (&[VType::Top, VType::Top], &[], false),
+        Answer::Yes,
+    ),
+    ((&[A], &[], true), (&[A], &[], false), Answer::No),
+    ((&[A], &[], false), (&[A], &[], true), Answer::Yes),
+];
+
+fn is_answered<C: Classes>(alloc: Global, classes: &C, row: &Row<'_>) -> Result<bool, AllocError> {
+    let (from, to, expected) = row;
+    let from = frame(alloc, from.0, from.1, from.2)?;
+    let to = frame(alloc, to.0, to.1, to.2)?;
+    Ok(frame_assignable(&from, &to, classes) == *expected)
 }
 
-fn check_stacks<C: Classes>(rt: &impl Abort, alloc: Global, classes: &C) {
-    let rows: [Row<'_, '_>; 5] = [
-        (&[VType::Int], &[A], Answer::No),
-        (&[VType::Null], &[A], Answer::Yes),
-        (&[VType::Long], &[VType::Top], Answer::No),
-        (&[A, VType::Int], &[B, A], Answer::No),
-        (&[A, A], &[A, B], Answer::Missing(b"B")),
-    ];
-    for (from, to, expected) in rows {
-        let (from, to) = (frame(alloc, &[], from, false), frame(alloc, &[], to, false));
-        assert!(rt; is_answered(from, to, classes, expected));
+fn are_answered<C: Classes>(alloc: Global, classes: &C, rows: &[Row<'_>]) -> bool {
+    for row in rows {
+        if is_answered(alloc, classes, row) != Ok(true) {
+            return false;
+        }
     }
-}
-
-/// Local variables; then frames with and without the flag that tells of an uninitialized `this`.
-fn check_locals<C: Classes>(rt: &impl Abort, alloc: Global, classes: &C) {
-    let long = frame(alloc, &[VType::Long, VType::Top], &[], false);
-    let unknown = frame(alloc, &[VType::Top, VType::Top], &[], false);
-    assert!(rt; is_answered(long, unknown, classes, Answer::Yes));
-    for (from, to, expected) in [(true, false, Answer::No), (false, true, Answer::Yes)] {
-        let (from, to) = (frame(alloc, &[A], &[], from), frame(alloc, &[A], &[], to));
-        assert!(rt; is_answered(from, to, classes, expected));
-    }
+    true
 }
 
 #[test]
@@ -109,32 +120,19 @@ fn frames(rt: HostRuntime) {
     let alloc = rt.alloc();
     let list = setting(alloc);
     match Rows::new(alloc, &list, hasher()) {
-        Ok(classes) => {
-            check_stacks(&rt, alloc, &classes);
-            check_locals(&rt, alloc, &classes);
-        }
+        Ok(classes) => assert!(rt; are_answered(alloc, &classes, &FRAMES)),
         Err(_) => panic!(rt; "a hierarchy"),
     }
 }
 
+const SHORT: FieldType<'static> = FieldType {
+    dims: 0,
+    base: Base::Primitive(Primitive::Short),
+};
+
 #[test]
 fn types_of_what_is_named(rt: HostRuntime) {
     let class = RefType::Class(b"A");
-    let of_class = array_of(class);
-    assert!(rt;
-        matches!(
-            of_class,
-            VType::Array {
-                dims: 1,
-                base: Base::Class(_)
-            }
-        )
-    );
-    assert!(rt; reference_to(class) == A);
-    assert!(rt; matches!(number_type(Kind::Long), VType::Long));
-    let short = FieldType {
-        dims: 0,
-        base: Base::Primitive(Primitive::Short),
-    };
-    assert!(rt; matches!(held_by(&short), VType::Int));
+    assert!(rt; array_of(class) == ARRAY_OF_A && reference_to(class) == A);
+    assert!(rt; number_type(Kind::Long) == VType::Long && held_by(&SHORT) == VType::Int);
 }

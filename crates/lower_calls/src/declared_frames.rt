@@ -65,10 +65,20 @@ fn refused(
     max_stack: u16,
 ) -> Result<Option<RefusedEntry>, AllocError> {
     let alone = [object(alloc)];
-    let Ok(classes) = Rows::new(alloc, &alone, hasher()) else {
-        return Err(AllocError);
-    };
-    let mut types = TypeNumbers::new(alloc, &classes);
+    match Rows::new(alloc, &alone, hasher()) {
+        Ok(classes) => refused_below(alloc, class, max_stack, &classes),
+        Err(_) => Err(AllocError),
+    }
+}
+
+/// The first entry that is refused, where these are the classes.
+fn refused_below<C: Classes>(
+    alloc: Global,
+    class: &ClassFile<'_>,
+    max_stack: u16,
+    classes: &C,
+) -> Result<Option<RefusedEntry>, AllocError> {
+    let mut types = TypeNumbers::new(alloc, classes);
     let table = ConstantTable::new(alloc, &class.constant_pool, &mut types)?;
     let mut frames = MethodFrames::new(alloc, &types, 5, max_stack, false)?;
     refused_among(alloc, class, max_stack, &table, &mut frames)

@@ -158,39 +158,56 @@ fn ask<'a>(alloc: Global, bytes: &'a [u8], asked: Asked<'a>) -> Result<bool, u8>
     }
 }
 
+/// A class file, something that is asked of it, and the answer.
+type Row<'a> = (&'a [u8], Asked<'a>, bool);
+
+fn are_answered(alloc: Global, rows: &[Row<'_>]) -> bool {
+    for (bytes, asked, answer) in rows {
+        if ask(alloc, *bytes, *asked) != Ok(*answer) {
+            return false;
+        }
+    }
+    true
+}
+
+const ABOUT_NAMES: [Row<'static>; 4] = [
+    (&CLONING, Asked::Uses, true),
+    (&CONSTRUCTING, Asked::Constructs, true),
+    (&CONSTRUCTING, Asked::NamesMethod, true),
+    (&CONSTRUCTING, Asked::IsOfK, true),
+];
+
 #[test]
 fn named_methods(rt: HostRuntime) {
-    let alloc = rt.alloc();
-    assert!(rt; ask(alloc, &CLONING, Asked::Uses) == Ok(true));
-    assert!(rt; ask(alloc, &CONSTRUCTING, Asked::Constructs) == Ok(true));
-    assert!(rt; ask(alloc, &CONSTRUCTING, Asked::NamesMethod) == Ok(true));
-    assert!(rt; ask(alloc, &CONSTRUCTING, Asked::IsOfK) == Ok(true));
+    assert!(rt; are_answered(rt.alloc(), &ABOUT_NAMES));
     assert!(rt; special_index(&CONSTRUCT) == Some(9));
     assert!(rt; special_index(&CLONE).is_none());
 }
 
+const GOTO: Act<'static> = Act::Goto { offset: 3 };
+
+const STORE: Act<'static> = Act::StoreReference { local: 1 };
+
 /// The ways of a `goto`, a `store` and an `invokespecial`.
 #[test]
 fn ways_of_acts(rt: HostRuntime) {
-    let (goto, call) = (Act::Goto { offset: 3 }, Act::InvokeSpecial { index: 9 });
-    let store = Act::StoreReference { local: 1 };
     typing_rules_go_as_acts();
-    assert!(rt; !goes_on(&goto) && goes_on(&call) && goes_on(&store));
-    assert!(rt; matches!(branches_by(&goto), Branches::One(3)));
-    assert!(rt; matches!(branches_by(&call), Branches::Nowhere));
+    assert!(rt; !goes_on(&GOTO) && goes_on(&CONSTRUCT) && goes_on(&STORE));
+    assert!(rt; matches!(branches_by(&GOTO), Branches::One(3)));
+    assert!(rt; matches!(branches_by(&CONSTRUCT), Branches::Nowhere));
 }
+
+const STORE_INT: Act<'static> = Act::Store {
+    kind: Kind::Int,
+    local: 1,
+};
+
+const NEW: Act<'static> = Act::New { index: 1 };
 
 /// A `new` is not plain, since what the locals hold of its last object is forgotten.
 #[test]
 fn plain_instructions(rt: HostRuntime) {
-    assert!(rt;
-        is_plain(&Act::Store {
-            kind: Kind::Int,
-            local: 1
-        })
-    );
-    assert!(rt; !is_plain(&Act::New { index: 1 }));
-    assert!(rt; !is_plain(&Act::Goto { offset: 0 }));
+    assert!(rt; is_plain(&STORE_INT) && !is_plain(&NEW) && !is_plain(&GOTO));
 }
 
 /// A byte is computed as an int; an array is no number. `dup2` takes two units.
@@ -202,31 +219,67 @@ fn results_and_units(rt: HostRuntime) {
     assert!(rt; units_taken(StackOperator::Dup2.forms()) == 2);
 }
 
+const ABOUT_OPERANDS: [Row<'static>; 3] = [
+    (&CLONING, Asked::Lacks(VType::Int), true),
+    (&CLONING, Asked::Lacks(VType::Class(b"K")), false),
+    (&CLONING, Asked::Lacks(B), false),
+];
+
 /// Whether an object of a missing class may be the operand is not known, so nothing is found.
 #[test]
 fn first_operand_that_is_not_met(rt: HostRuntime) {
-    let alloc = rt.alloc();
-    assert!(rt; ask(alloc, &CLONING, Asked::Lacks(VType::Int)) == Ok(true));
-    assert!(rt; ask(alloc, &CLONING, Asked::Lacks(VType::Class(b"K"))) == Ok(false));
-    assert!(rt; ask(alloc, &CLONING, Asked::Lacks(B)) == Ok(false));
+    assert!(rt; are_answered(rt.alloc(), &ABOUT_OPERANDS));
+}
+
+const OPERAND: Reason<'static> = Reason::WrongOperand;
+
+const MEMBER: Reason<'static> = Reason::ProtectedMember;
+
+type Outcome<'a> = Result<(), Reason<'a>>;
+
+/// Two outcomes, and the one of both together.
+const TOGETHER: [(Outcome<'static>, Outcome<'static>, Outcome<'static>); 5] = [
+    (Err(OPERAND), Ok(()), Err(OPERAND)),
+    (Err(MEMBER), Err(OPERAND), Err(OPERAND)),
+    (Err(OPERAND), Err(MEMBER), Err(OPERAND)),
+    (Ok(()), Err(MEMBER), Err(MEMBER)),
+    (Ok(()), Ok(()), Ok(())),
+];
+
+/// Whether these are the outcomes of two; where the first is a reason, that is the first of it and the other outcome.
+fn are_together(rows: &[(Outcome<'_>, Outcome<'_>, Outcome<'_>)]) -> bool {
+    for (one, other, both) in rows {
+        let first = match one {
+            Ok(()) => *both,
+            Err(reason) => Err(first_reason(*reason, *other)),
+        };
+        if together(*one, *other) != *both || first != *both {
+            return false;
+        }
+    }
+    true
+}
+
+/// Whether an object may be used, and the outcome.
+const OBJECTS: [(Answer<'static>, Outcome<'static>); 3] = [
+    (Answer::Yes, Ok(())),
+    (Answer::No, Err(MEMBER)),
+    (Answer::Missing(b"B"), Err(Reason::ClassMissing(b"B"))),
+];
+
+fn are_checked(rows: &[(Answer<'_>, Outcome<'_>)]) -> bool {
+    for (answer, outcome) in rows {
+        if check_object(*answer) != *outcome {
+            return false;
+        }
+    }
+    true
 }
 
 #[test]
 fn lesser_reasons(rt: HostRuntime) {
-    let (one, other) = (Reason::WrongOperand, Reason::ProtectedMember);
-    assert!(rt; matches!(first_reason(one, Ok(())), Reason::WrongOperand));
-    assert!(rt; matches!(first_reason(other, Err(one)), Reason::WrongOperand));
-    assert!(rt; matches!(first_reason(one, Err(other)), Reason::WrongOperand));
-    assert!(rt; matches!(together(Ok(()), Err(other)), Err(Reason::ProtectedMember)));
-    assert!(rt; together(Ok(()), Ok(())).is_ok());
-    assert!(rt; check_object(Answer::Yes).is_ok());
-    assert!(rt; matches!(check_object(Answer::No), Err(Reason::ProtectedMember)));
-    assert!(rt;
-        matches!(
-            check_object(Answer::Missing(b"B")),
-            Err(Reason::ClassMissing(_))
-        )
-    );
+    assert!(rt; are_together(&TOGETHER));
+    assert!(rt; are_checked(&OBJECTS));
 }
 
 /// Where memory runs out the reason is 1.

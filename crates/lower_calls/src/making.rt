@@ -1,7 +1,7 @@
 //! Values that tests of several files use: class files, summaries of classes, and frames.
 use frames::{Frame, VType};
 use hierarchy::{Kind, MemberSummary, Summary};
-use names::{Base, OBJECT};
+use names::{Base, OBJECT, Primitive};
 use std::alloc::{AllocError, Global};
 use std::hash::{BuildHasherDefault, FoldHasher};
 
@@ -10,6 +10,28 @@ pub const A: VType<'static> = VType::Class(b"A");
 
 /// Objects of a class B, which no list here has.
 pub const B: VType<'static> = VType::Class(b"B");
+
+pub const ARRAY_OF_A: VType<'static> = VType::Array {
+    dims: 1,
+    base: Base::Class(b"A"),
+};
+
+pub const ARRAY_OF_B: VType<'static> = VType::Array {
+    dims: 1,
+    base: Base::Class(b"B"),
+};
+
+/// Arrays of arrays of ints.
+pub const TABLE_OF_INTS: VType<'static> = VType::Array {
+    dims: 2,
+    base: Base::Primitive(Primitive::Int),
+};
+
+/// Arrays of as many dimensions as there may be.
+pub const DEEPEST: VType<'static> = VType::Array {
+    dims: 255,
+    base: Base::Primitive(Primitive::Boolean),
+};
 
 /// The class file of K with the constants 8 and 9 for Object's `<init>`, and a method that calls that.
 pub const CONSTRUCTING: [u8; 114] = [
@@ -30,11 +52,6 @@ pub const CLONING: [u8; 145] = [
     0, 8, 0, 9, 10, 0, 3, 0, 10, 0, 0x21, 0, 1, 0, 3, 0, 0, 0, 0, 0, 1, 0, 0, 0, 5, 0, 6, 0, 1, 0,
     7, 0, 0, 0, 15, 0, 4, 0, 2, 0, 0, 0, 3, 0xB6, 0, 11, 0, 0, 0, 0, 0, 0,
 ];
-
-/// Arrays of so many dimensions.
-pub fn array<'a>(dims: u8, base: Base<'a>) -> VType<'a> {
-    VType::Array { dims, base }
-}
 
 /// The summary of a class or interface that is not final and has no members, by its name and its superclass's.
 pub fn summary<'a>(

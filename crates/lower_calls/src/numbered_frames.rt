@@ -90,53 +90,93 @@ fn stand<C: Classes>(
     Ok(())
 }
 
-/// The answers of the running frame to one that was declared, when they are first compared and when they are again.
-/// Each has so many locals and so many items, ints but for one place, counted from local 0 up and then from the bottom
-/// item up.
-fn answers<'n, C: Classes>(
-    alloc: Global,
-    types: &TypeNumbers<'_, 'n, C>,
-    n: Numbers,
-    locals: u16,
-    items: u16,
+/// Makes the local variables of the running frame ints, and puts so many ints on its stack in place of what it holds,
+/// but for one place, counted from local 0 up and then from the bottom item up.
+fn set<C: Classes>(
+    frames: &mut MethodFrames<'_, '_, '_, C>,
+    int: u32,
+    other: u32,
     place: usize,
-) -> Result<(Answer<'n>, Answer<'n>), AllocError>
+    items: u16,
+) -> Result<(), AllocError>
+    requires int { IsGiven frames.old.types int }
+    requires other { IsGiven frames.old.types other }
+    ensures rest { frames.new ≡ record frames.old { running = frames.new.running } }
+    ensures items { OnOk result (length frames.new.running.stack ≡ items) }
+{
+    let locals = usize::from(frames.max_locals());
+    let item = if place < locals {
+        usize::MAX
+    } else {
+        place.saturating_sub(locals)
+    };
+    fill(frames, int, other, place)?;
+    stand(frames, int, other, item, items)
+}
+
+/// Whether this is the answer of the running frame to a declared one, when they are first compared and when they are
+/// again.
+fn is_answered_twice<C: Classes>(
+    frames: &mut MethodFrames<'_, '_, '_, C>,
+    declared: usize,
+    expected: Answer<'_>,
+) -> Result<bool, AllocError>
+    requires { declared < length frames.old.declared }
+{
+    let first = frames.answer(declared)?;
+    let again = frames.answer(declared)?;
+    Ok(first == expected && again == expected)
+}
+
+/// Whether this is the answer of the running frame to one that was declared. Each has so many locals and so many items,
+/// ints but for one place.
+fn is_answered<C: Classes>(
+    alloc: Global,
+    types: &TypeNumbers<'_, '_, C>,
+    n: Numbers,
+    sizes: (u16, u16),
+    place: usize,
+    expected: Answer<'_>,
+) -> Result<bool, AllocError>
     requires int { IsGiven types.now n.int }
     requires ours { IsGiven types.now n.ours }
     requires theirs { IsGiven types.now n.theirs }
 {
+    let (locals, items) = sizes;
     let mut frames = MethodFrames::new(alloc, types, locals, items, false)?;
-    let item = place.saturating_sub(usize::from(locals));
-    let item = if place < usize::from(locals) {
-        usize::MAX
-    } else {
-        item
-    };
-    fill(&mut frames, n.int, n.theirs, place)?;
-    stand(&mut frames, n.int, n.theirs, item, items)?;
+    set(&mut frames, n.int, n.theirs, place, items)?;
     let declared = frames.declare(3)?;
-    fill(&mut frames, n.int, n.ours, place)?;
-    stand(&mut frames, n.int, n.ours, item, items)?;
-    let first = frames.answer(declared)?;
-    let again = frames.answer(declared)?;
-    Ok((first, again))
+    set(&mut frames, n.int, n.ours, place, items)?;
+    is_answered_twice(&mut frames, declared, expected)
 }
 
 /// A frame of so many locals and so many items, ints but for one place.
 fn ints_but<'a>(
     alloc: Global,
-    locals: u16,
-    items: u16,
+    sizes: (u16, u16),
     place: usize,
     other: VType<'a>,
 ) -> Result<Frame<'a>, AllocError> {
-    let count = usize::from(locals) + usize::from(items);
-    let mut types = vec![in alloc; VType::Int; count]?;
+    let locals = usize::from(sizes.0);
+    let mut types = vec![in alloc; VType::Int; locals + usize::from(sizes.1)]?;
     if place < types.len() {
         types[place] = other;
     }
-    let (locals, stack) = types.split_at(usize::from(locals).min(types.len()));
+    let (locals, stack) = types.split_at(locals.min(types.len()));
     frame(alloc, locals, stack, false)
+}
+
+/// The answer on two frames of these sizes that differ at one place, by their types.
+fn answer_at<'a, C: Classes>(
+    alloc: Global,
+    classes: &C,
+    sizes: (u16, u16),
+    place: usize,
+    pair: (VType<'a>, VType<'a>),
+) -> Result<Answer<'a>, AllocError> {
+    let from = ints_but(alloc, sizes, place, pair.0)?;
+    let to = ints_but(alloc, sizes, place, pair.1)?;
+    Ok(frame_assignable(&from, &to, classes))
 }
 
 /// Whether two frames that differ at one place are compared by numbers as they are by their types.
@@ -147,53 +187,83 @@ fn agree_at<C: Classes>(
     place: usize,
     pair: (VType<'_>, VType<'_>),
 ) -> Result<bool, AllocError> {
-    let (locals, items) = sizes;
+    let expected = answer_at(alloc, classes, sizes, place, pair)?;
     let mut types = TypeNumbers::new(alloc, classes);
     let n = given_numbers(&mut types, pair)?;
-    let from = ints_but(alloc, locals, items, place, pair.0)?;
-    let to = ints_but(alloc, locals, items, place, pair.1)?;
-    let expected = frame_assignable(&from, &to, classes);
-    let (first, again) = answers(alloc, &types, n, locals, items, place)?;
-    Ok(first == expected && again == expected)
+    is_answered(alloc, &types, n, sizes, place, expected)
 }
 
 /// The types of one place: No, Yes, twice Missing, and types of other widths.
-fn pairs<'a>() -> [(VType<'a>, VType<'a>); 7] {
-    [
-        (VType::Int, VType::Float),
-        (A, VType::Class(OBJECT)),
-        (A, B),
-        (B, A),
-        (VType::Long, VType::Top),
-        (VType::Int, VType::Double),
-        (VType::Null, VType::Top),
-    ]
+const PAIRS: [(VType<'static>, VType<'static>); 7] = [
+    (VType::Int, VType::Float),
+    (A, VType::Class(OBJECT)),
+    (A, B),
+    (B, A),
+    (VType::Long, VType::Top),
+    (VType::Int, VType::Double),
+    (VType::Null, VType::Top),
+];
+
+/// Whether frames of these sizes agree, whatever the types of the place at which they differ.
+fn agree_for_pairs<C: Classes>(
+    alloc: Global,
+    classes: &C,
+    sizes: (u16, u16),
+    place: usize,
+    pairs: &[(VType<'_>, VType<'_>)],
+) -> Result<bool, AllocError> {
+    for pair in pairs {
+        if !agree_at(alloc, classes, sizes, place, *pair)? {
+            return Ok(false);
+        }
+    }
+    Ok(true)
 }
 
 /// Whether frames of these sizes agree, whatever the place at which they differ.
 fn agree<C: Classes>(alloc: Global, classes: &C, sizes: (u16, u16)) -> Result<bool, AllocError> {
     for place in 0..usize::from(sizes.0) + usize::from(sizes.1) + 1 {
-        for pair in pairs() {
-            if !agree_at(alloc, classes, sizes, place, pair)? {
-                return Ok(false);
-            }
+        if !agree_for_pairs(alloc, classes, sizes, place, &PAIRS)? {
+            return Ok(false);
+        }
+    }
+    Ok(true)
+}
+
+/// How many locals and how many items.
+const SIZES: [(u16, u16); 7] = [(0, 0), (1, 1), (15, 2), (16, 0), (17, 3), (0, 17), (33, 33)];
+
+fn agree_for_sizes<C: Classes>(
+    alloc: Global,
+    classes: &C,
+    list: &[(u16, u16)],
+) -> Result<bool, AllocError> {
+    for sizes in list {
+        if !agree(alloc, classes, *sizes)? {
+            return Ok(false);
+        }
+    }
+    Ok(true)
+}
+
+/// Places of a large frame.
+const PLACES: [usize; 9] = [0, 15, 16, 255, 256, 257, 272, 273, 289];
+
+fn agree_in_a_large_one<C: Classes>(
+    alloc: Global,
+    classes: &C,
+    places: &[usize],
+) -> Result<bool, AllocError> {
+    for place in places {
+        if !agree_at(alloc, classes, (257, 33), *place, (A, B))? {
+            return Ok(false);
         }
     }
     Ok(true)
 }
 
 fn all_agree<C: Classes>(alloc: Global, classes: &C) -> Result<bool, AllocError> {
-    for sizes in [(0, 0), (1, 1), (15, 2), (16, 0), (17, 3), (0, 17), (33, 33)] {
-        if !agree(alloc, classes, sizes)? {
-            return Ok(false);
-        }
-    }
-    for place in [0, 15, 16, 255, 256, 257, 272, 273, 289] {
-        if !agree_at(alloc, classes, (257, 33), place, (A, B))? {
-            return Ok(false);
-        }
-    }
-    Ok(true)
+    Ok(agree_for_sizes(alloc, classes, &SIZES)? && agree_in_a_large_one(alloc, classes, &PLACES)?)
 }
 
 /// Frames of which one is declared at 7: a long at local 18 of 20, an int above a long on the stack, and the flag.
@@ -215,46 +285,62 @@ fn declared_at_7<'t, 'c, 'n, C: Classes>(
     Ok(frames)
 }
 
-/// Whether the running frame is the one that is declared there.
-fn is_as_declared<C: Classes>(frames: &MethodFrames<'_, '_, '_, C>, n: Numbers) -> bool {
-    let locals = frames.local(18) == n.ours && frames.local(20) == 0;
-    let items = [frames.item(0), frames.item(1), frames.item(2)];
-    let size = frames.depth() == 2 && frames.has_units(3) && !frames.has_units(4);
-    locals && items == [Some(n.int), Some(n.ours), None] && size && frames.flag()
+/// Whether the running frame has the locals and the flag of the one that is declared there.
+fn has_declared_locals<C: Classes>(frames: &MethodFrames<'_, '_, '_, C>, n: Numbers) -> bool {
+    frames.local(18) == n.ours && frames.local(20) == 0 && frames.flag()
 }
 
-/// Whether a frame that was declared is found, and the running one becomes it, whatever it was before.
-fn is_taken<C: Classes>(alloc: Global, classes: &C) -> Result<bool, AllocError> {
-    let mut types = TypeNumbers::new(alloc, classes);
-    let n = given_numbers(&mut types, (VType::Long, A))?;
-    let mut frames = declared_at_7(alloc, &types, n)?;
-    let found = frames.find(7) == Some(0) && frames.find(8).is_none();
-    put(&mut frames, 18, n.theirs)?;
+/// Whether the running frame has the items of the one that is declared there.
+fn has_declared_items<C: Classes>(frames: &MethodFrames<'_, '_, '_, C>, n: Numbers) -> bool {
+    let items = [frames.item(0), frames.item(1), frames.item(2)];
+    let has_size = frames.depth() == 2 && frames.has_units(3) && !frames.has_units(4);
+    items == [Some(n.int), Some(n.ours), None] && has_size
+}
+
+/// Gives the running frame another local 18, an empty stack and no flag.
+fn change<C: Classes>(
+    frames: &mut MethodFrames<'_, '_, '_, C>,
+    number: u32,
+) -> Result<(), AllocError>
+    requires { IsGiven frames.old.types number }
+    ensures { frames.new.declared ≡ frames.old.declared }
+{
+    put(frames, 18, number)?;
     frames.clear_stack();
     frames.set_flag(false);
-    let changed = frames.answer(0)?;
+    Ok(())
+}
+
+/// Whether the running frame becomes the one that is declared.
+fn becomes_declared<C: Classes>(
+    frames: &mut MethodFrames<'_, '_, '_, C>,
+    n: Numbers,
+) -> Result<bool, AllocError>
+    requires { length frames.old.declared ≡ 1 }
+{
     frames.take(0)?;
-    let taken = is_as_declared(&frames, n);
-    Ok(found && changed == Answer::No && taken && frames.answer(0)? == Answer::Yes)
+    let taken = has_declared_locals(frames, n) && has_declared_items(frames, n);
+    Ok(taken && frames.answer(0)? == Answer::Yes)
+}
+
+/// Whether the frame that was declared is found, and the running one becomes it, whatever it was before.
+fn is_taken<C: Classes>(
+    frames: &mut MethodFrames<'_, '_, '_, C>,
+    n: Numbers,
+) -> Result<bool, AllocError>
+    requires theirs { IsGiven frames.old.types n.theirs }
+    requires declared { length frames.old.declared ≡ 1 }
+{
+    let found = frames.find(7) == Some(0) && frames.find(8).is_none();
+    change(frames, n.theirs)?;
+    let changed = frames.answer(0)?;
+    Ok(found && changed == Answer::No && becomes_declared(frames, n)?)
 }
 
 /// Whether items come off from the top down.
-fn are_popped<C: Classes>(alloc: Global, classes: &C) -> Result<bool, AllocError> {
-    let mut types = TypeNumbers::new(alloc, classes);
-    let n = given_numbers(&mut types, (VType::Long, A))?;
-    let mut frames = declared_at_7(alloc, &types, n)?;
+fn are_popped<C: Classes>(frames: &mut MethodFrames<'_, '_, '_, C>, n: Numbers) -> bool {
     let items = [frames.pop(), frames.pop(), frames.pop()];
-    Ok(items == [Some(n.int), Some(n.ours), None])
-}
-
-/// Whether the flag of an uninitialized `this` is compared.
-fn flags_count<C: Classes>(alloc: Global, classes: &C) -> Result<bool, AllocError> {
-    let types = TypeNumbers::new(alloc, classes);
-    let mut frames = MethodFrames::new(alloc, &types, 0, 0, false)?;
-    let declared = frames.declare(0)?;
-    let without = frames.answer(declared)?;
-    frames.set_flag(true);
-    Ok(without == Answer::Yes && frames.answer(declared)? == Answer::No)
+    items == [Some(n.int), Some(n.ours), None]
 }
 
 /// Swaps the two items at the top, where there are two.
@@ -270,24 +356,175 @@ fn swap<C: Classes>(frames: &mut MethodFrames<'_, '_, '_, C>) -> Result<(), Allo
 }
 
 /// Whether items are moved, and those that were declared before stay.
-fn is_moved<C: Classes>(alloc: Global, classes: &C) -> Result<bool, AllocError> {
-    let mut types = TypeNumbers::new(alloc, classes);
-    let n = given_numbers(&mut types, (VType::Long, A))?;
-    let mut frames = declared_at_7(alloc, &types, n)?;
-    swap(&mut frames)?;
+fn is_moved<C: Classes>(
+    frames: &mut MethodFrames<'_, '_, '_, C>,
+    n: Numbers,
+) -> Result<bool, AllocError>
+    requires { length frames.old.declared ≡ 1 }
+{
+    swap(frames)?;
     let items = [frames.item(0), frames.item(1), frames.item(2)];
     Ok(items == [Some(n.ours), Some(n.int), None] && frames.answer(0)? == Answer::No)
 }
 
 /// Whether an object that `new` made is forgotten in the locals, and found on the stack.
-fn is_forgotten<C: Classes>(alloc: Global, classes: &C) -> Result<bool, AllocError> {
-    let mut types = TypeNumbers::new(alloc, classes);
-    let n = given_numbers(&mut types, (VType::Uninit(9), A))?;
-    let mut frames = declared_at_7(alloc, &types, n)?;
-    put(&mut frames, 3, n.ours)?;
+fn is_forgotten<C: Classes>(
+    frames: &mut MethodFrames<'_, '_, '_, C>,
+    n: Numbers,
+) -> Result<bool, AllocError>
+    requires { IsGiven frames.old.types n.ours }
+{
+    put(frames, 3, n.ours)?;
     let made = frames.has_made(9) && !frames.has_made(10);
     frames.forget(9)?;
     Ok(made && frames.local(3) == 0 && frames.local(18) == 0 && frames.item(1) == Some(n.ours))
+}
+
+/// The first local variable that changed since they were kept, and the first one after 18.
+fn changed<C: Classes>(frames: &MethodFrames<'_, '_, '_, C>) -> [Option<usize>; 2] {
+    [frames.first_changed(0), frames.first_changed(19)]
+}
+
+/// Whether it is told which local variable changed since they were kept, and that a frame has the locals that it has.
+fn changes_are_told<C: Classes>(
+    frames: &mut MethodFrames<'_, '_, '_, C>,
+) -> Result<bool, AllocError>
+    requires { length frames.old.declared ≡ 1 }
+{
+    let alike = frames.first_unequal(0, 0).is_none() && frames.count() == 1;
+    let before = changed(frames) == [Some(18), None];
+    frames.keep_locals();
+    let kept = changed(frames) == [None, None];
+    frames.forget(9)?;
+    Ok(alike && before && kept && changed(frames) == [Some(18), None])
+}
+
+/// Whether a frame has these types in its local variables and on its stack, from the bottom up, and this flag.
+fn has_types(frame: &Frame<'_>, locals: &[VType<'_>], stack: &[VType<'_>], flag: bool) -> bool {
+    frame.locals.as_slice() == locals && frame.stack.as_slice() == stack && frame.flag == flag
+}
+
+/// Gives the running frame this local 0 and this item on top, and no flag.
+fn add<C: Classes>(frames: &mut MethodFrames<'_, '_, '_, C>, number: u32) -> Result<(), AllocError>
+    requires { IsGiven frames.old.types number }
+    ensures { frames.new.declared ≡ frames.old.declared }
+{
+    put(frames, 0, number)?;
+    frames.push(number)?;
+    frames.set_flag(false);
+    Ok(())
+}
+
+/// Whether frames are told by their types: a declared one, and the running one that changed since.
+fn types_are_told<C: Classes>(
+    alloc: Global,
+    frames: &mut MethodFrames<'_, '_, '_, C>,
+    n: Numbers,
+) -> Result<bool, AllocError>
+    requires theirs { IsGiven frames.old.types n.theirs }
+    requires declared { length frames.old.declared ≡ 1 }
+{
+    add(frames, n.theirs)?;
+    let declared = frames.declared_frame(alloc, 0)?;
+    let running = frames.frame(alloc)?;
+    let mut locals = [VType::Top; 20];
+    locals[18] = VType::Long;
+    let before = has_types(&declared, &locals, &[VType::Long, VType::Int], true);
+    locals[0] = B;
+    Ok(before && has_types(&running, &locals, &[VType::Long, VType::Int, B], false))
+}
+
+/// Whether frames begin anew for another method.
+fn begins_anew<C: Classes>(frames: &mut MethodFrames<'_, '_, '_, C>) -> Result<bool, AllocError> {
+    frames.restart(30, 1, false);
+    let none = frames.find(7).is_none() && frames.depth() == 0 && !frames.flag();
+    let declared = frames.declare(7)?;
+    let locals = frames.max_locals() == 30 && frames.local(18) == 0 && frames.local(29) == 0;
+    Ok(none && locals && frames.answer(declared)? == Answer::Yes)
+}
+
+/// Something that is asked of frames of which one is declared at 7.
+#[derive(Clone, Copy)]
+enum Asked {
+    AreTaken,
+    ArePopped,
+    AreMoved,
+    Forget,
+    TellChanges,
+    TellTypes,
+    BeginAnew,
+}
+
+fn ask_frames<C: Classes>(
+    alloc: Global,
+    frames: &mut MethodFrames<'_, '_, '_, C>,
+    n: Numbers,
+    asked: Asked,
+) -> Result<bool, AllocError>
+    requires ours { IsGiven frames.old.types n.ours }
+    requires theirs { IsGiven frames.old.types n.theirs }
+    requires declared { length frames.old.declared ≡ 1 }
+{
+    match asked {
+        Asked::AreTaken => is_taken(frames, n),
+        Asked::ArePopped => Ok(are_popped(frames, n)),
+        Asked::AreMoved => is_moved(frames, n),
+        Asked::Forget => is_forgotten(frames, n),
+        Asked::TellChanges => changes_are_told(frames),
+        Asked::TellTypes => types_are_told(alloc, frames, n),
+        Asked::BeginAnew => begins_anew(frames),
+    }
+}
+
+/// The answer where these are the types in the frame that is declared, and beside it.
+fn ask<C: Classes>(
+    alloc: Global,
+    classes: &C,
+    pair: (VType<'_>, VType<'_>),
+    asked: Asked,
+) -> Result<bool, AllocError> {
+    let mut types = TypeNumbers::new(alloc, classes);
+    let n = given_numbers(&mut types, pair)?;
+    let mut frames = declared_at_7(alloc, &types, n)?;
+    ask_frames(alloc, &mut frames, n, asked)
+}
+
+/// Two types, and what is asked of frames with them.
+type Question<'a> = ((VType<'a>, VType<'a>), Asked);
+
+const OBJECT_MADE: VType<'static> = VType::Uninit(9);
+
+const QUESTIONS: [Question<'static>; 7] = [
+    ((VType::Long, A), Asked::AreTaken),
+    ((VType::Long, A), Asked::ArePopped),
+    ((VType::Long, A), Asked::AreMoved),
+    ((OBJECT_MADE, A), Asked::Forget),
+    ((OBJECT_MADE, A), Asked::TellChanges),
+    ((VType::Long, B), Asked::TellTypes),
+    ((OBJECT_MADE, A), Asked::BeginAnew),
+];
+
+fn are_answered<C: Classes>(
+    alloc: Global,
+    classes: &C,
+    questions: &[Question<'_>],
+) -> Result<bool, AllocError> {
+    for (pair, asked) in questions {
+        if !ask(alloc, classes, *pair, *asked)? {
+            return Ok(false);
+        }
+    }
+    Ok(true)
+}
+
+/// Whether the flag of an uninitialized `this` is compared.
+fn flags_count<C: Classes>(alloc: Global, classes: &C) -> Result<bool, AllocError> {
+    let types = TypeNumbers::new(alloc, classes);
+    let mut frames = MethodFrames::new(alloc, &types, 0, 0, false)?;
+    let declared = frames.declare(0)?;
+    let without = frames.answer(declared)?;
+    frames.set_flag(true);
+    Ok(without == Answer::Yes && frames.answer(declared)? == Answer::No)
 }
 
 /// Frames of which one is declared at 5, with one item on the stack and its type in local 1 of 2.
@@ -308,71 +545,30 @@ fn caught_at_5<'t, 'c, 'n, C: Classes>(
 }
 
 /// Whether an exception is caught by a frame with one item that takes it, and a local of that frame takes its type.
+fn catches<C: Classes>(frames: &mut MethodFrames<'_, '_, '_, C>, n: Numbers) -> bool
+    requires int { IsGiven frames.old.types n.int }
+    requires ours { IsGiven frames.old.types n.ours }
+    requires declared { length frames.old.declared ≡ 1 }
+{
+    let caught = frames.answer_caught(0, n.ours) == Answer::Yes;
+    let others = frames.answer_caught(0, n.int) == Answer::No;
+    let takes = frames.takes(0, 1, n.ours) && frames.takes(0, 0, n.int);
+    caught && others && takes && !frames.takes(0, 1, n.int)
+}
+
 fn is_caught<C: Classes>(alloc: Global, classes: &C) -> Result<bool, AllocError> {
     let mut types = TypeNumbers::new(alloc, classes);
     let n = given_numbers(&mut types, (A, VType::Class(OBJECT)))?;
     let mut frames = caught_at_5(alloc, &types, n)?;
-    let caught = frames.answer_caught(0, n.ours) == Answer::Yes;
-    let others = frames.answer_caught(0, n.int) == Answer::No;
-    let takes = frames.takes(0, 1, n.ours);
-    Ok(caught && others && takes && !frames.takes(0, 1, n.int) && frames.takes(0, 0, n.int))
-}
-
-/// Whether it is told which local variable changed since they were kept, and that a frame has the locals that it has.
-fn changes_are_told<C: Classes>(alloc: Global, classes: &C) -> Result<bool, AllocError> {
-    let mut types = TypeNumbers::new(alloc, classes);
-    let n = given_numbers(&mut types, (VType::Uninit(9), A))?;
-    let mut frames = declared_at_7(alloc, &types, n)?;
-    let alike = frames.first_unequal(0, 0).is_none() && frames.count() == 1;
-    let before = frames.first_changed(0);
-    frames.keep_locals();
-    let kept = frames.first_changed(0);
-    frames.forget(9)?;
-    let changed = [frames.first_changed(0), frames.first_changed(19)];
-    Ok(alike && before == Some(18) && kept.is_none() && changed == [Some(18), None])
-}
-
-/// Whether a frame has these types in its local variables and on its stack, from the bottom up, and this flag.
-fn has_types(frame: &Frame<'_>, locals: &[VType<'_>], stack: &[VType<'_>], flag: bool) -> bool {
-    frame.locals.as_slice() == locals && frame.stack.as_slice() == stack && frame.flag == flag
-}
-
-/// Whether frames are told by their types: a declared one, and the running one that changed since.
-fn types_are_told<C: Classes>(alloc: Global, classes: &C) -> Result<bool, AllocError> {
-    let mut types = TypeNumbers::new(alloc, classes);
-    let n = given_numbers(&mut types, (VType::Long, B))?;
-    let mut frames = declared_at_7(alloc, &types, n)?;
-    put(&mut frames, 0, n.theirs)?;
-    frames.push(n.theirs)?;
-    frames.set_flag(false);
-    let running = frames.frame(alloc)?;
-    let declared = frames.declared_frame(alloc, 0)?;
-    let mut locals = [VType::Top; 20];
-    locals[18] = VType::Long;
-    let before = has_types(&declared, &locals, &[VType::Long, VType::Int], true);
-    locals[0] = B;
-    let after = has_types(&running, &locals, &[VType::Long, VType::Int, B], false);
-    Ok(before && after)
-}
-
-/// Whether frames begin anew for another method.
-fn begins_anew<C: Classes>(alloc: Global, classes: &C) -> Result<bool, AllocError> {
-    let mut types = TypeNumbers::new(alloc, classes);
-    let n = given_numbers(&mut types, (VType::Uninit(9), A))?;
-    let mut frames = declared_at_7(alloc, &types, n)?;
-    frames.restart(30, 1, false);
-    let none = frames.find(7).is_none() && frames.depth() == 0 && !frames.flag();
-    let declared = frames.declare(7)?;
-    let locals = frames.max_locals() == 30 && frames.local(18) == 0 && frames.local(29) == 0;
-    Ok(none && locals && frames.answer(declared)? == Answer::Yes)
+    Ok(catches(&mut frames, n))
 }
 
 fn all_hold<C: Classes>(alloc: Global, classes: &C) -> Result<bool, AllocError> {
-    let frames = is_taken(alloc, classes)? && flags_count(alloc, classes)?;
-    let items = are_popped(alloc, classes)? && is_moved(alloc, classes)?;
-    let others = is_caught(alloc, classes)? && begins_anew(alloc, classes)?;
-    let told = changes_are_told(alloc, classes)? && types_are_told(alloc, classes)?;
-    Ok(frames && items && others && told && is_forgotten(alloc, classes)?)
+    Ok(
+        are_answered(alloc, classes, &QUESTIONS)?
+            && flags_count(alloc, classes)?
+            && is_caught(alloc, classes)?,
+    )
 }
 
 /// Whether all that is said of frames by numbers holds; or memory ran out, where it may.

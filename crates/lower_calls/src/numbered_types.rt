@@ -1,14 +1,24 @@
-use crate::making::{A, B, array, hasher, setting};
+use crate::making::{A, ARRAY_OF_A, ARRAY_OF_B, B, DEEPEST, TABLE_OF_INTS, hasher, setting};
 use frames::VType;
 use hierarchy::{Answer, Classes, Rows};
 use layout::{Cursor, Part};
-use names::{Base, OBJECT, Primitive};
+use names::{Base, OBJECT};
 use pool::Pool;
 use std::alloc::{AllocError, Global};
 use std::test::*;
 use type_numbers::{ConstantTable, MethodNumbers, NamedConstant, TypeNumbers, laws};
 
 const D: VType<'static> = VType::Class(b"D");
+
+const TABLE_OF_CS: VType<'static> = VType::Array {
+    dims: 2,
+    base: Base::Class(b"C"),
+};
+
+const DEEPEST_OF_DS: VType<'static> = VType::Array {
+    dims: 255,
+    base: Base::Class(b"D"),
+};
 
 #[test]
 fn laws_are_called() {
@@ -21,30 +31,28 @@ fn laws_are_called() {
 }
 
 /// Types with the numbers that they get one after the other.
-fn numbered<'a>() -> [(VType<'a>, u32); 20] {
-    [
-        (VType::Top, 0),
-        (VType::Int, 0x0100_0000),
-        (VType::Float, 0x0200_0000),
-        (VType::Double, 0x0300_0000),
-        (VType::Long, 0x0400_0000),
-        (VType::Null, 0x0500_0000),
-        (VType::UninitThis, 0x0600_0000),
-        (VType::Class(OBJECT), 0x0700_0000),
-        (A, 0x0700_0001),
-        (VType::Class(b"C"), 0x0700_0003),
-        (array(1, Base::Class(b"A")), 0x0701_0001),
-        (array(2, Base::Class(b"C")), 0x0702_0003),
-        (VType::Uninit(65534), 0x0800_FFFE),
-        (array(2, Base::Primitive(Primitive::Int)), 0x0902_000A),
-        (array(255, Base::Primitive(Primitive::Boolean)), 0x09FF_0004),
-        (B, 0x0A00_0000),
-        (array(255, Base::Class(b"D")), 0x0AFF_0001),
-        (D, 0x0A00_0001),
-        (array(1, Base::Class(b"B")), 0x0A01_0000),
-        (B, 0x0A00_0000),
-    ]
-}
+const NUMBERED: [(VType<'static>, u32); 20] = [
+    (VType::Top, 0),
+    (VType::Int, 0x0100_0000),
+    (VType::Float, 0x0200_0000),
+    (VType::Double, 0x0300_0000),
+    (VType::Long, 0x0400_0000),
+    (VType::Null, 0x0500_0000),
+    (VType::UninitThis, 0x0600_0000),
+    (VType::Class(OBJECT), 0x0700_0000),
+    (A, 0x0700_0001),
+    (VType::Class(b"C"), 0x0700_0003),
+    (ARRAY_OF_A, 0x0701_0001),
+    (TABLE_OF_CS, 0x0702_0003),
+    (VType::Uninit(65534), 0x0800_FFFE),
+    (TABLE_OF_INTS, 0x0902_000A),
+    (DEEPEST, 0x09FF_0004),
+    (B, 0x0A00_0000),
+    (DEEPEST_OF_DS, 0x0AFF_0001),
+    (D, 0x0A00_0001),
+    (ARRAY_OF_B, 0x0A01_0000),
+    (B, 0x0A00_0000),
+];
 
 /// Whether a type gets this number, which stands for the type.
 fn is_numbered<'n, C: Classes>(
@@ -72,14 +80,22 @@ fn restarts<'n, C: Classes>(numbers: &mut TypeNumbers<'_, 'n, C>) -> Result<bool
     Ok(is_numbered(numbers, &D, 0x0A00_0000)? && is_numbered(numbers, &A, 0x0700_0001)?)
 }
 
-/// Whether types get their numbers, each of which stands for its type.
+/// Whether types get these numbers, each of which stands for its type.
+fn are_types_numbered<'n, C: Classes>(
+    numbers: &mut TypeNumbers<'_, 'n, C>,
+    rows: &[(VType<'n>, u32)],
+) -> Result<bool, AllocError> {
+    for (vtype, number) in rows {
+        if !is_numbered(numbers, vtype, *number)? || !is_its_own(numbers, vtype)? {
+            return Ok(false);
+        }
+    }
+    Ok(true)
+}
+
 fn agree<C: Classes>(alloc: Global, classes: &C) -> Result<bool, AllocError> {
     let mut numbers = TypeNumbers::new(alloc, classes);
-    let mut fine = true;
-    for (vtype, number) in &numbered() {
-        fine &= is_numbered(&mut numbers, vtype, *number)? && is_its_own(&mut numbers, vtype)?;
-    }
-    Ok(fine && restarts(&mut numbers)?)
+    Ok(are_types_numbered(&mut numbers, &NUMBERED)? && restarts(&mut numbers)?)
 }
 
 /// At 2 a Class of A, at 6 a Fieldref of a field f of A that holds a java/lang/String, at 9 a Methodref, at 11 a Class
@@ -186,16 +202,27 @@ const CONSTANTS: [(u16, NamedConstant); 12] = [
     ),
 ];
 
-/// Whether a table has these constants of that pool, and no others.
-fn are_constants(table: &ConstantTable) -> bool {
-    let mut fine = true;
-    for (index, constant) in &CONSTANTS {
-        fine &= table.get(*index) == *constant;
+/// The other indices of that pool, and one behind it.
+const OTHERS: [u16; 10] = [0, 1, 3, 4, 5, 7, 8, 10, 18, 21];
+
+/// Whether a table has these constants.
+fn has_constants(table: &ConstantTable, rows: &[(u16, NamedConstant)]) -> bool {
+    for (index, constant) in rows {
+        if table.get(*index) != *constant {
+            return false;
+        }
     }
-    for index in [0, 1, 3, 4, 5, 7, 8, 10, 18, 21] {
-        fine &= table.get(index) == NamedConstant::Other;
+    true
+}
+
+/// Whether a table has nothing at these indices.
+fn has_none(table: &ConstantTable, indices: &[u16]) -> bool {
+    for index in indices {
+        if table.get(*index) != NamedConstant::Other {
+            return false;
+        }
     }
-    fine
+    true
 }
 
 /// Whether the table of that pool has these constants, and the numbers of the types of its methods.
@@ -208,7 +235,8 @@ fn are_tabled<'n, C: Classes>(
     let NamedConstant::Method { types, .. } = table.get(9) else {
         return Ok(false);
     };
-    Ok(are_constants(&table) && table.arguments(types) == ARGUMENTS.as_slice())
+    let has_rows = has_constants(&table, &CONSTANTS) && has_none(&table, &OTHERS);
+    Ok(has_rows && table.arguments(types) == ARGUMENTS.as_slice())
 }
 
 /// Whether the text at 7 of that pool is the descriptor of a method that takes a java/lang/String and an int, and is
@@ -240,19 +268,32 @@ fn are_no_methods<'n, C: Classes>(
     Ok(text.is_none() && constant.is_none())
 }
 
+/// Whether all that is said of that pool holds.
+fn are_pool_numbered<'n, C: Classes>(
+    alloc: Global,
+    pool: &Pool<'n>,
+    numbers: &mut TypeNumbers<'_, 'n, C>,
+) -> Result<bool, AllocError> {
+    Ok(
+        are_tabled(alloc, pool, numbers)?
+            && is_method(alloc, pool, numbers)?
+            && are_no_methods(alloc, pool, numbers)?,
+    )
+}
+
 /// Whether all that is said of that pool holds, or the bytes are no pool, where that may be.
 fn are_numbered<C: Classes>(
     alloc: Global,
     classes: &C,
     may_fail: bool,
 ) -> Result<bool, AllocError> {
-    let Ok(pool) = Pool::take(alloc, &mut Cursor::new(&NAMED)) else {
-        return Ok(may_fail);
-    };
-    let mut numbers = TypeNumbers::new(alloc, classes);
-    let constants = are_tabled(alloc, &pool, &mut numbers)?;
-    let method = is_method(alloc, &pool, &mut numbers)?;
-    Ok(constants && method && are_no_methods(alloc, &pool, &mut numbers)?)
+    match Pool::take(alloc, &mut Cursor::new(&NAMED)) {
+        Ok(pool) => {
+            let mut numbers = TypeNumbers::new(alloc, classes);
+            are_pool_numbered(alloc, &pool, &mut numbers)
+        }
+        Err(_) => Ok(may_fail),
+    }
 }
 
 /// Whether all that is said of numbers holds; or memory ran out, where it may.

@@ -1,10 +1,10 @@
-use crate::making::{A, B, array, frame, hasher, setting};
+use crate::making::{A, ARRAY_OF_A, ARRAY_OF_B, B, DEEPEST, TABLE_OF_INTS, frame, hasher, setting};
 use frames::{
     ABSENT, Frame, FrameFault, Packed, VType, first_undecided, frame_assignable, laws, pack,
     packed_assignable,
 };
 use hierarchy::{Answer, Classes, Rows};
-use names::{Base, OBJECT, Primitive};
+use names::OBJECT;
 use std::alloc::{AllocError, Global};
 use std::test::*;
 
@@ -15,27 +15,30 @@ fn laws_are_called() {
 }
 
 /// Types and their slots.
-fn slots<'a>() -> [(VType<'a>, u32); 14] {
-    [
-        (VType::Top, 0),
-        (VType::Int, 0x0100_0000),
-        (VType::Float, 0x0200_0000),
-        (VType::Double, 0x0300_0000),
-        (VType::Long, 0x0400_0000),
-        (VType::Null, 0x0500_0000),
-        (VType::UninitThis, 0x0600_0000),
-        (A, 0x0700_0001),
-        (array(1, Base::Class(b"A")), 0x0701_0001),
-        (VType::Uninit(65534), 0x0800_FFFE),
-        (array(2, Base::Primitive(Primitive::Int)), 0x0902_000A),
-        (array(255, Base::Primitive(Primitive::Boolean)), 0x09FF_0004),
-        (B, ABSENT),
-        (array(1, Base::Class(b"B")), ABSENT),
-    ]
-}
+const SLOTS: [(VType<'static>, u32); 14] = [
+    (VType::Top, 0),
+    (VType::Int, 0x0100_0000),
+    (VType::Float, 0x0200_0000),
+    (VType::Double, 0x0300_0000),
+    (VType::Long, 0x0400_0000),
+    (VType::Null, 0x0500_0000),
+    (VType::UninitThis, 0x0600_0000),
+    (A, 0x0700_0001),
+    (ARRAY_OF_A, 0x0701_0001),
+    (VType::Uninit(65534), 0x0800_FFFE),
+    (TABLE_OF_INTS, 0x0902_000A),
+    (DEEPEST, 0x09FF_0004),
+    (B, ABSENT),
+    (ARRAY_OF_B, ABSENT),
+];
 
-fn are_packed<C: Classes>(classes: &C) -> bool {
-    slots().iter().all(|row| pack(&row.0, classes) == row.1)
+fn are_packed<C: Classes>(classes: &C, rows: &[(VType<'_>, u32)]) -> bool {
+    for (vtype, slot) in rows {
+        if pack(vtype, classes) != *slot {
+            return false;
+        }
+    }
+    true
 }
 
 fn has_places<C: Classes>(classes: &C) -> bool {
@@ -48,7 +51,7 @@ fn has_places<C: Classes>(classes: &C) -> bool {
 fn types_as_slots(rt: HostRuntime) {
     let list = setting(rt.alloc());
     match Rows::new(rt.alloc(), &list, hasher()) {
-        Ok(classes) => assert!(rt; has_places(&classes) && are_packed(&classes)),
+        Ok(classes) => assert!(rt; has_places(&classes) && are_packed(&classes, &SLOTS)),
         Err(_) => panic!(rt; "a hierarchy"),
     }
 }
@@ -87,6 +90,31 @@ fn cut<'a>(alloc: Global, types: &[VType<'a>], locals: usize) -> Result<Frame<'a
     frame(alloc, locals, stack, false)
 }
 
+/// Whether two frames are compared as without slots.
+fn agree_on<'n, C: Classes>(
+    alloc: Global,
+    from: &Frame<'n>,
+    to: &Frame<'n>,
+    classes: &C,
+) -> Result<bool, FrameFault> {
+    let expected = frame_assignable(from, to, classes);
+    packed_answer(alloc, from, to, classes, expected)
+}
+
+/// Whether the two frames that have the first of these types in their local variables and the others on their stacks
+/// are compared as without slots.
+fn agree_cut<'n, C: Classes>(
+    alloc: Global,
+    ours: &[VType<'n>],
+    theirs: &[VType<'n>],
+    locals: usize,
+    classes: &C,
+) -> Result<bool, FrameFault> {
+    let from = cut(alloc, ours, locals)?;
+    let to = cut(alloc, theirs, locals)?;
+    agree_on(alloc, &from, &to, classes)
+}
+
 /// Whether two frames of so many slots that differ at one place are compared as without slots.
 fn agree_at<C: Classes>(
     alloc: Global,
@@ -98,10 +126,7 @@ fn agree_at<C: Classes>(
     let ours = ints_but(alloc, count, place, pair.0)?;
     let theirs = ints_but(alloc, count, place, pair.1)?;
     for locals in [0, count / 2, count] {
-        let from = cut(alloc, &ours, locals)?;
-        let to = cut(alloc, &theirs, locals)?;
-        let expected = frame_assignable(&from, &to, classes);
-        if !packed_answer(alloc, &from, &to, classes, expected)? {
+        if !agree_cut(alloc, &ours, &theirs, locals, classes)? {
             return Ok(false);
         }
     }
@@ -109,24 +134,38 @@ fn agree_at<C: Classes>(
 }
 
 /// The types of one place: No, Yes, twice Missing, and an absent class to itself.
-fn pairs<'a>() -> [(VType<'a>, VType<'a>); 6] {
-    [
-        (VType::Int, VType::Float),
-        (A, VType::Class(OBJECT)),
-        (A, B),
-        (B, A),
-        (B, B),
-        (VType::Long, VType::Top),
-    ]
+const PAIRS: [(VType<'static>, VType<'static>); 6] = [
+    (VType::Int, VType::Float),
+    (A, VType::Class(OBJECT)),
+    (A, B),
+    (B, A),
+    (B, B),
+    (VType::Long, VType::Top),
+];
+
+/// Whether frames of so many slots agree, whatever the types of the place at which they differ.
+fn agree_for_pairs<C: Classes>(
+    alloc: Global,
+    count: usize,
+    place: usize,
+    pairs: &[(VType<'_>, VType<'_>)],
+    classes: &C,
+) -> Result<bool, FrameFault> {
+    for pair in pairs {
+        if !agree_at(alloc, count, place, *pair, classes)? {
+            return Ok(false);
+        }
+    }
+    Ok(true)
 }
 
+const COUNTS: [usize; 6] = [0, 1, 7, 8, 9, 17];
+
 fn all_agree<C: Classes>(alloc: Global, classes: &C) -> Result<bool, FrameFault> {
-    for count in [0, 1, 7, 8, 9, 17] {
-        for place in 0..count + 1 {
-            for pair in pairs() {
-                if !agree_at(alloc, count, place, pair, classes)? {
-                    return Ok(false);
-                }
+    for count in &COUNTS {
+        for place in 0..count.saturating_add(1) {
+            if !agree_for_pairs(alloc, *count, place, &PAIRS, classes)? {
+                return Ok(false);
             }
         }
     }
@@ -134,27 +173,46 @@ fn all_agree<C: Classes>(alloc: Global, classes: &C) -> Result<bool, FrameFault>
 }
 
 /// A frame of ten local variables, ints but for these at 3, 7 and 9.
-fn row<'a>(
-    alloc: Global,
-    third: VType<'a>,
-    seventh: VType<'a>,
-    ninth: VType<'a>,
-) -> Result<Frame<'a>, AllocError> {
+fn ten_locals<'a>(alloc: Global, types: [VType<'a>; 3]) -> Result<Frame<'a>, AllocError> {
     let int = VType::Int;
+    let [third, seventh, ninth] = types;
     let locals = [int, int, int, third, int, int, int, seventh, int, ninth];
     frame(alloc, &locals, &[], false)
 }
 
+/// The types of a frame at those places, the types of one that is wanted, and the answer.
+type Row<'a> = ([VType<'a>; 3], [VType<'a>; 3], Answer<'a>);
+
+const D: VType<'static> = VType::Class(b"D");
+
 /// Two slots of a class that is absent; one that is missing, alone and in front of a No; and two that are missing.
-fn absent_rows<C: Classes>(alloc: Global, classes: &C) -> Result<bool, FrameFault> {
-    let absent = row(alloc, B, B, VType::Int)?;
-    let yes = packed_answer(alloc, &absent, &absent, classes, Answer::Yes)?;
-    let ours = row(alloc, A, VType::Class(b"D"), VType::Int)?;
-    let missing = Answer::Missing(b"B");
-    let first = packed_answer(alloc, &ours, &absent, classes, missing)?;
-    let float = row(alloc, B, B, VType::Float)?;
-    let no = packed_answer(alloc, &ours, &float, classes, Answer::No)?;
-    Ok(yes && first && no)
+const ROWS: [Row<'static>; 3] = [
+    ([B, B, VType::Int], [B, B, VType::Int], Answer::Yes),
+    (
+        [A, D, VType::Int],
+        [B, B, VType::Int],
+        Answer::Missing(b"B"),
+    ),
+    ([A, D, VType::Int], [B, B, VType::Float], Answer::No),
+];
+
+fn is_answered<C: Classes>(alloc: Global, classes: &C, row: &Row<'_>) -> Result<bool, FrameFault> {
+    let from = ten_locals(alloc, row.0)?;
+    let to = ten_locals(alloc, row.1)?;
+    packed_answer(alloc, &from, &to, classes, row.2)
+}
+
+fn are_answered<C: Classes>(
+    alloc: Global,
+    classes: &C,
+    rows: &[Row<'_>],
+) -> Result<bool, FrameFault> {
+    for row in rows {
+        if !is_answered(alloc, classes, row)? {
+            return Ok(false);
+        }
+    }
+    Ok(true)
 }
 
 /// Whether all that is said of packed frames holds; or memory ran out, where it may.
@@ -166,7 +224,7 @@ fn holds(alloc: Global, of_lengths: bool, may_fail: bool) -> bool {
     let held = if of_lengths {
         all_agree(alloc, &classes)
     } else {
-        absent_rows(alloc, &classes)
+        are_answered(alloc, &classes, &ROWS)
     };
     match held {
         Ok(held) => held,
@@ -189,11 +247,13 @@ fn memory_runs_out_for_packed_frames(rt: HostRuntime) {
     assert!(rt; holds(rt.alloc(), false, true));
 }
 
+const OURS: [u32; 9] = [1, 2, ABSENT, 4, 5, 6, 7, 8, 9];
+
+const THEIRS: [u32; 9] = [1, 2, ABSENT, 4, 5, 6, 7, 8, 0];
+
 #[test]
 fn undecided_slots(rt: HostRuntime) {
-    let ours = [1, 2, ABSENT, 4, 5, 6, 7, 8, 9];
-    let theirs = [1, 2, ABSENT, 4, 5, 6, 7, 8, 0];
-    assert!(rt; matches!(first_undecided(&ours, &theirs, 0), Some(2)));
-    assert!(rt; matches!(first_undecided(&ours, &theirs, 3), Some(8)));
-    assert!(rt; first_undecided(&ours, &ours, 3).is_none());
+    assert!(rt; matches!(first_undecided(&OURS, &THEIRS, 0), Some(2)));
+    assert!(rt; matches!(first_undecided(&OURS, &THEIRS, 3), Some(8)));
+    assert!(rt; first_undecided(&OURS, &OURS, 3).is_none());
 }

@@ -44,11 +44,10 @@ fn is_named(alloc: Global, text: &[u8], expected: &[u8]) -> bool {
 fn names_and_faults(rt: HostRuntime) {
     let alloc = rt.alloc();
     assert!(rt; is_named(alloc, &[0x41, 0x5C, 0xC0, 0x80, 0x20], b"A\\u005c\\u0000 "));
-    let fault = ReadFault::BadTag { at: 10, tag: 2 };
     assert!(rt;
         is_printed(
             alloc,
-            &Then(Word("refused "), fault),
+            &Then(Word("refused "), FAULT),
             b"refused 7 at 10 tag 2"
         )
     );
@@ -65,6 +64,8 @@ fn is_quoted(alloc: Global, text: &[u8], expected: &[u8]) -> bool {
 
 /// A quotation mark and a delete after more bytes than lanes tell at once.
 const LONG: &[u8] = b"java/util/HashMap\"Node\x7f";
+
+const FAULT: ReadFault = ReadFault::BadTag { at: 10, tag: 2 };
 
 #[test]
 fn runs_and_escapes(rt: HostRuntime) {

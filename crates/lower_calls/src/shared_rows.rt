@@ -65,37 +65,63 @@ fn differs_at(alloc: Global, count: u16, place: u16) -> Result<bool, AllocError>
     Ok(first == expected && at == expected && behind.is_none())
 }
 
-fn one_slot_differs(alloc: Global) -> Result<bool, AllocError> {
-    for count in [0, 1, 7, 8, 9, 15, 16, 17, 33, 257] {
-        for place in 0..count + 1 {
-            if !differs_at(alloc, count, place)? {
-                return Ok(false);
-            }
-        }
-    }
-    for place in [0, 15, 16, 255, 256, 4095, 4096, 65534] {
-        if !differs_at(alloc, u16::MAX, place)? {
+/// Whether it does at each of these places.
+fn differs_at_each(alloc: Global, count: u16, places: &[u16]) -> Result<bool, AllocError> {
+    for place in places {
+        if !differs_at(alloc, count, *place)? {
             return Ok(false);
         }
     }
     Ok(true)
 }
 
-/// Whether declared rows keep what they hold, whatever the running row holds afterwards.
-fn are_kept(alloc: Global) -> Result<bool, AllocError> {
-    let mut arena = filled(alloc, 40, 1)?;
-    let first = arena.declare()?;
-    put(&mut arena, 20, 2)?;
-    let second = arena.declare()?;
-    put(&mut arena, 20, 3)?;
-    put(&mut arena, 39, 4)?;
-    let both = [declared(&arena, first, 20), declared(&arena, second, 20)] == [Some(1), Some(2)];
-    let last = [declared(&arena, second, 39), running(&arena, 39)] == [Some(1), Some(4)];
+/// Whether it does at each place of so many, and nowhere after the last.
+fn differs_everywhere(alloc: Global, count: u16) -> Result<bool, AllocError> {
+    for place in 0..count.saturating_add(1) {
+        if !differs_at(alloc, count, place)? {
+            return Ok(false);
+        }
+    }
+    Ok(true)
+}
+
+const COUNTS: [u16; 10] = [0, 1, 7, 8, 9, 15, 16, 17, 33, 257];
+
+/// Places of the longest row.
+const PLACES: [u16; 8] = [0, 15, 16, 255, 256, 4095, 4096, 65534];
+
+fn one_slot_differs(alloc: Global) -> Result<bool, AllocError> {
+    for count in &COUNTS {
+        if !differs_everywhere(alloc, *count)? {
+            return Ok(false);
+        }
+    }
+    differs_at_each(alloc, u16::MAX, &PLACES)
+}
+
+/// Whether two declared rows of ones, of which the second has 2 at slot 20, keep what they hold when the first is
+/// taken on and changed.
+fn are_kept_behind(arena: &mut Arena, first: Row, second: Row) -> Result<bool, AllocError>
+    requires first { first < length arena.old.declared }
+    requires second { second < length arena.old.declared }
+{
     arena.take(first);
-    put(&mut arena, 0, 6)?;
-    let taken = [running(&arena, 20), running(&arena, 0)] == [Some(1), Some(6)];
-    let stays = [declared(&arena, first, 0), declared(&arena, second, 0)] == [Some(1), Some(1)];
-    Ok(both && last && taken && stays)
+    put(arena, 0, 6)?;
+    let taken = [running(arena, 20), running(arena, 0)] == [Some(1), Some(6)];
+    let stays = [declared(arena, first, 0), declared(arena, second, 0)] == [Some(1), Some(1)];
+    Ok(taken && stays)
+}
+
+/// Whether declared rows keep what they hold, whatever the running row, which has ones, holds afterwards.
+fn are_kept(arena: &mut Arena) -> Result<bool, AllocError> {
+    let first = arena.declare()?;
+    put(arena, 20, 2)?;
+    let second = arena.declare()?;
+    put(arena, 20, 3)?;
+    put(arena, 39, 4)?;
+    let both = [declared(arena, first, 20), declared(arena, second, 20)] == [Some(1), Some(2)];
+    let last = [declared(arena, second, 39), running(arena, 39)] == [Some(1), Some(4)];
+    Ok(both && last && are_kept_behind(arena, first, second)?)
 }
 
 /// Whether Top fits, and is fitted, as the standard has it.
@@ -109,44 +135,63 @@ fn top_is_wanted(alloc: Global) -> Result<bool, AllocError> {
     Ok(any && arena.first_undecided(int, 0) == Some(18))
 }
 
-/// Whether a row that was said to fit is compared again where it changed, and only in that block.
-fn is_noted(alloc: Global, count: u16, place: usize) -> Result<bool, AllocError> {
-    let mut arena = filled(alloc, count, 6)?;
-    let row = arena.declare()?;
-    fill(&mut arena, 5)?;
+/// Whether a declared row, which differs from the running one everywhere, is said to fit, and is compared again where
+/// the running one changes, and only in that block.
+fn is_noted(arena: &mut Arena, row: Row, place: usize) -> Result<bool, AllocError>
+    requires { row < length arena.old.declared }
+{
     let before = arena.first_undecided(row, 0);
     arena.note_fit(row);
     let noted = arena.first_undecided(row, 0);
-    put(&mut arena, place, 7)?;
+    put(arena, place, 7)?;
     let changed = arena.first_undecided(row, 0);
     arena.note_fit(row);
     let again = arena.first_undecided(row, 0);
     Ok(before == Some(0) && noted.is_none() && changed == Some(place / 16 * 16) && again.is_none())
 }
 
-fn what_was_said_is_kept(alloc: Global) -> Result<bool, AllocError> {
-    let short = is_noted(alloc, 9, 8)?;
-    let long = is_noted(alloc, 300, 299)?;
-    Ok(short && long && is_noted(alloc, 5000, 4100)?)
+fn is_noted_among(alloc: Global, count: u16, place: usize) -> Result<bool, AllocError> {
+    let mut arena = filled(alloc, count, 6)?;
+    let row = arena.declare()?;
+    fill(&mut arena, 5)?;
+    is_noted(&mut arena, row, place)
 }
 
-/// Whether it is told where the running row changed since it was kept, and where two declared rows differ.
-fn changes_are_told(alloc: Global, count: u16, place: usize) -> Result<bool, AllocError> {
-    let mut arena = filled(alloc, count, 6)?;
-    let before = arena.first_changed(0);
-    arena.keep();
-    let row = arena.declare()?;
-    let kept = arena.first_changed(0);
-    put(&mut arena, place, 7)?;
-    let other = arena.declare()?;
-    let changed = [arena.first_changed(0), arena.first_changed(arena.slots())];
+fn what_was_said_is_kept(alloc: Global) -> Result<bool, AllocError> {
+    let short = is_noted_among(alloc, 9, 8)?;
+    let long = is_noted_among(alloc, 300, 299)?;
+    Ok(short && long && is_noted_among(alloc, 5000, 4100)?)
+}
+
+/// Whether it is told where two declared rows differ.
+fn is_unequal(arena: &Arena, row: Row, other: Row, place: usize) -> bool
+    requires row { row < length arena.now.declared }
+    requires other { other < length arena.now.declared }
+{
     let unequal = [
         arena.first_unequal(row, other),
         arena.first_unequal(row, row),
     ];
-    let told = changed == [Some(place), None] && unequal == [Some(place), None];
+    unequal == [Some(place), None]
+}
+
+/// Whether it is told where the running row changed since it was kept, and where two declared rows differ.
+fn is_told(arena: &mut Arena, place: usize) -> Result<bool, AllocError> {
+    let before = arena.first_changed(0);
+    arena.keep();
+    let row = arena.declare()?;
+    let kept = arena.first_changed(0);
+    put(arena, place, 7)?;
+    let other = arena.declare()?;
+    let changed = [arena.first_changed(0), arena.first_changed(arena.slots())];
+    let told = changed == [Some(place), None] && is_unequal(arena, row, other, place);
     arena.take(row);
     Ok(before == Some(0) && kept.is_none() && told && arena.first_changed(0).is_none())
+}
+
+fn changes_are_told(alloc: Global, count: u16, place: usize) -> Result<bool, AllocError> {
+    let mut arena = filled(alloc, count, 6)?;
+    is_told(&mut arena, place)
 }
 
 /// Whether an arena begins anew.
@@ -161,8 +206,13 @@ fn begins_anew(alloc: Global) -> Result<bool, AllocError> {
     Ok(unchanged && are_few && declared(&arena, row, 16) == Some(2))
 }
 
+fn rows_are_kept(alloc: Global) -> Result<bool, AllocError> {
+    let mut arena = filled(alloc, 40, 1)?;
+    are_kept(&mut arena)
+}
+
 fn all_hold(alloc: Global) -> Result<bool, AllocError> {
-    let rows = are_kept(alloc)? && top_is_wanted(alloc)?;
+    let rows = rows_are_kept(alloc)? && top_is_wanted(alloc)?;
     let changes = changes_are_told(alloc, 17, 16)? && changes_are_told(alloc, 5000, 4100)?;
     Ok(rows && changes && what_was_said_is_kept(alloc)? && begins_anew(alloc)?)
 }

@@ -98,27 +98,25 @@ fn both_ways(rt: HostRuntime) {
 }
 
 /// Bodies that are no stack map, and why.
-fn faults<'a>() -> [(&'a [u8], ReadFault); 9] {
-    [
-        (&[0], ReadFault::EndsEarly { at: 0 }),
-        (&[0, 2, 9], ReadFault::EndsEarly { at: 3 }),
-        (&[0, 1, 251, 0], ReadFault::EndsEarly { at: 3 }),
-        (
-            &[0, 1, 255, 0, 0, 255, 255, 1],
-            ReadFault::EndsEarly { at: 8 },
-        ),
-        (&[0, 1, 128], ReadFault::BadFrameType { at: 2 }),
-        (&[0, 2, 3, 246], ReadFault::BadFrameType { at: 3 }),
-        (&[0, 1, 64, 9], ReadFault::BadTypeTag { at: 3 }),
-        (&[0, 1, 252, 0, 0, 255, 0], ReadFault::BadTypeTag { at: 5 }),
-        (&[0, 1, 7, 0, 0], ReadFault::AttributeLength { at: 3 }),
-    ]
-}
+const FAULTS: [(&[u8], ReadFault); 9] = [
+    (&[0], ReadFault::EndsEarly { at: 0 }),
+    (&[0, 2, 9], ReadFault::EndsEarly { at: 3 }),
+    (&[0, 1, 251, 0], ReadFault::EndsEarly { at: 3 }),
+    (
+        &[0, 1, 255, 0, 0, 255, 255, 1],
+        ReadFault::EndsEarly { at: 8 },
+    ),
+    (&[0, 1, 128], ReadFault::BadFrameType { at: 2 }),
+    (&[0, 2, 3, 246], ReadFault::BadFrameType { at: 3 }),
+    (&[0, 1, 64, 9], ReadFault::BadTypeTag { at: 3 }),
+    (&[0, 1, 252, 0, 0, 255, 0], ReadFault::BadTypeTag { at: 5 }),
+    (&[0, 1, 7, 0, 0], ReadFault::AttributeLength { at: 3 }),
+];
 
 #[test]
 fn refused_to_read(rt: HostRuntime) {
-    for (body, fault) in faults() {
-        assert!(rt; read_map(rt.alloc(), body).err() == Some(fault));
+    for (body, fault) in &FAULTS {
+        assert!(rt; read_map(rt.alloc(), *body).err() == Some(*fault));
     }
 }
 

@@ -26,20 +26,49 @@ fn misses(alloc: Global, words: &[&str]) -> bool {
     }
 }
 
+/// The words of a line, what it asks for, of how many files, and the last of these.
+type Row<'a> = (&'a [&'a str], Command, usize, &'a str);
+
+fn are_asked(alloc: Global, rows: &[Row<'_>]) -> bool {
+    for (words, command, files, last) in rows {
+        if !asks(alloc, *words, *command, *files, *last) {
+            return false;
+        }
+    }
+    true
+}
+
 /// Each command with the files after it, of which one looks like an option.
+const LINES: [Row<'static>; 4] = [
+    (
+        &["classck", "check", "--", "-a"],
+        Command::Check(Form::Plain),
+        1,
+        "-a",
+    ),
+    (
+        &["classck", "verify", "K", "O", "P"],
+        Command::Verify(Form::Plain, Profile::Default),
+        3,
+        "P",
+    ),
+    (
+        &["classck", "explain", "K", "O"],
+        Command::Explain(Form::Plain, Profile::Default),
+        2,
+        "O",
+    ),
+    (
+        &["classck", "play", "K", "O"],
+        Command::Play(Profile::Default),
+        2,
+        "O",
+    ),
+];
+
 #[test]
 fn lines(rt: HostRuntime) {
-    let alloc = rt.alloc();
-    let words = ["classck", "check", "--", "-a"];
-    assert!(rt; asks(alloc, &words, Command::Check(Form::Plain), 1, "-a"));
-    let words = ["classck", "verify", "K", "O", "P"];
-    let verify = Command::Verify(Form::Plain, Profile::Default);
-    assert!(rt; asks(alloc, &words, verify, 3, "P"));
-    let words = ["classck", "explain", "K", "O"];
-    let explain = Command::Explain(Form::Plain, Profile::Default);
-    assert!(rt; asks(alloc, &words, explain, 2, "O"));
-    let words = ["classck", "play", "K", "O"];
-    assert!(rt; asks(alloc, &words, Command::Play(Profile::Default), 2, "O"));
+    assert!(rt; are_asked(rt.alloc(), &LINES));
 }
 
 /// Two classes, and a known one.
@@ -53,30 +82,56 @@ fn lines_of_many_classes(rt: HostRuntime) {
     assert!(rt; asks(rt.alloc(), &words, each, 3, "O"));
 }
 
+const DYNAMIC: [Row<'static>; 3] = [
+    (
+        &["classck", "verify", "K", "--dynamic", "O"],
+        Command::Verify(Form::Plain, Profile::Dynamic),
+        2,
+        "O",
+    ),
+    (
+        &["classck", "explain", "--dynamic", "K"],
+        Command::Explain(Form::Plain, Profile::Dynamic),
+        1,
+        "K",
+    ),
+    (
+        &["classck", "play", "--dynamic", "K"],
+        Command::Play(Profile::Dynamic),
+        1,
+        "K",
+    ),
+];
+
 #[test]
 fn lines_with_dynamic(rt: HostRuntime) {
-    let alloc = rt.alloc();
-    let words = ["classck", "verify", "K", "--dynamic", "O"];
-    let verify = Command::Verify(Form::Plain, Profile::Dynamic);
-    assert!(rt; asks(alloc, &words, verify, 2, "O"));
-    let words = ["classck", "explain", "--dynamic", "K"];
-    let explain = Command::Explain(Form::Plain, Profile::Dynamic);
-    assert!(rt; asks(alloc, &words, explain, 1, "K"));
-    let words = ["classck", "play", "--dynamic", "K"];
-    assert!(rt; asks(alloc, &words, Command::Play(Profile::Dynamic), 1, "K"));
+    assert!(rt; are_asked(rt.alloc(), &DYNAMIC));
 }
+
+const JSON: [Row<'static>; 3] = [
+    (
+        &["classck", "check", "--json", "K"],
+        Command::Check(Form::Json),
+        1,
+        "K",
+    ),
+    (
+        &["classck", "verify", "K", "O", "--json"],
+        Command::Verify(Form::Json, Profile::Default),
+        2,
+        "O",
+    ),
+    (
+        &["classck", "verify", "--json", "--dynamic", "K", "O"],
+        Command::Verify(Form::Json, Profile::Dynamic),
+        2,
+        "O",
+    ),
+];
 
 #[test]
 fn lines_with_json(rt: HostRuntime) {
-    let alloc = rt.alloc();
-    let words = ["classck", "check", "--json", "K"];
-    assert!(rt; asks(alloc, &words, Command::Check(Form::Json), 1, "K"));
-    let words = ["classck", "verify", "K", "O", "--json"];
-    let verify = Command::Verify(Form::Json, Profile::Default);
-    assert!(rt; asks(alloc, &words, verify, 2, "O"));
-    let words = ["classck", "verify", "--json", "--dynamic", "K", "O"];
-    let dynamic = Command::Verify(Form::Json, Profile::Dynamic);
-    assert!(rt; asks(alloc, &words, dynamic, 2, "O"));
+    assert!(rt; are_asked(rt.alloc(), &JSON));
 }
 
 #[test]
@@ -86,16 +141,18 @@ fn lines_without_a_file(rt: HostRuntime) {
 }
 
 /// Each complaint, in the order of the enum.
+const FAULTS: [MainFault; 4] = [
+    MainFault::NoRandom,
+    MainFault::CannotOpen(2),
+    MainFault::Memory,
+    MainFault::NotWritten,
+];
+
 #[test]
 fn complaints(rt: HostRuntime) {
     let mut out: Vec<u8> = Vec::new(rt.alloc());
-    for fault in [
-        MainFault::NoRandom,
-        MainFault::CannotOpen(2),
-        MainFault::Memory,
-        MainFault::NotWritten,
-    ] {
-        assert!(rt; complaint(&fault, &mut out).is_ok());
+    for fault in &FAULTS {
+        assert!(rt; complaint(fault, &mut out).is_ok());
     }
     assert!(rt;
         out.as_slice()

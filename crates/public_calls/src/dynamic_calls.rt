@@ -162,6 +162,13 @@ fn answers(alloc: Global, profile: Profile, bytes: &[u8]) -> (u8, u8) {
     (by_bytes(alloc, profile, bytes), among)
 }
 
+fn among<C: Classes>(alloc: Global, profile: Profile, bytes: &[u8], classes: &C) -> u8 {
+    match verify_class_under(alloc, bytes, profile, classes) {
+        Ok(report) => number_of(&report.methods),
+        Err(_) => OUT_OF_MEMORY,
+    }
+}
+
 fn under<'a>(alloc: Global, profile: Profile, bytes: &'a [u8], class: &ClassFile<'a>) -> u8 {
     let Ok(formed) = form_check(alloc, class) else {
         return OUT_OF_MEMORY;
@@ -170,11 +177,8 @@ fn under<'a>(alloc: Global, profile: Profile, bytes: &'a [u8], class: &ClassFile
         return OUT_OF_MEMORY;
     };
     let list = [object(alloc), own];
-    let Ok(classes) = Rows::new(alloc, &list, hasher()) else {
-        return OUT_OF_MEMORY;
-    };
-    match verify_class_under(alloc, bytes, profile, &classes) {
-        Ok(report) => number_of(&report.methods),
+    match Rows::new(alloc, &list, hasher()) {
+        Ok(classes) => among(alloc, profile, bytes, &classes),
         Err(_) => OUT_OF_MEMORY,
     }
 }

@@ -93,40 +93,56 @@ fn is_answered(
     answered && out.taken.as_slice() == &text[..left.min(text.len())]
 }
 
+/// Whether that is so wherever the writer fails before so many bytes.
+fn is_answered_before(
+    alloc: Global,
+    command: Command,
+    reads: &[Read],
+    most: usize,
+    expected: (u8, &[u8]),
+) -> bool {
+    for left in 0..most {
+        if !is_answered(alloc, command, reads, left, expected) {
+            return false;
+        }
+    }
+    true
+}
+
+/// Each command, and its answer on K.
+const ANSWERS: [(Command, &[u8]); 7] = [
+    (Command::Check(Form::Plain), b"ok\n"),
+    (
+        Command::Check(Form::Json),
+        b"{\"kind\":\"file\",\"answer\":\"ok\"}\n",
+    ),
+    (
+        Command::Show,
+        b"class K major 52 minor 0 flags 0021\nsuper java/lang/Object\nmethod 0009 f ()V\n  stack 0 locals 0\n  0 return\n",
+    ),
+    (
+        Command::Verify(Form::Plain, Profile::Default),
+        b"method f ()V verified\n",
+    ),
+    (
+        Command::Verify(Form::Json, Profile::Dynamic),
+        b"{\"kind\":\"method\",\"name\":\"f\",\"descriptor\":\"()V\",\"answer\":\"verified\"}\n",
+    ),
+    (Command::Play(Profile::Dynamic), b"play verified\n"),
+    (
+        Command::VerifyEach {
+            profile: Profile::Default,
+            classes: 1,
+        },
+        b"file 1 K\nmethod f ()V verified\n",
+    ),
+];
+
 #[test]
 fn a_writer_that_fails(rt: HostRuntime) -> Result<(), Fail> {
-    let rows: [(Command, &[u8]); 7] = [
-        (Command::Check(Form::Plain), b"ok\n"),
-        (
-            Command::Check(Form::Json),
-            b"{\"kind\":\"file\",\"answer\":\"ok\"}\n",
-        ),
-        (
-            Command::Show,
-            b"class K major 52 minor 0 flags 0021\nsuper java/lang/Object\nmethod 0009 f ()V\n  stack 0 locals 0\n  0 return\n",
-        ),
-        (
-            Command::Verify(Form::Plain, Profile::Default),
-            b"method f ()V verified\n",
-        ),
-        (
-            Command::Verify(Form::Json, Profile::Dynamic),
-            b"{\"kind\":\"method\",\"name\":\"f\",\"descriptor\":\"()V\",\"answer\":\"verified\"}\n",
-        ),
-        (Command::Play(Profile::Dynamic), b"play verified\n"),
-        (
-            Command::VerifyEach {
-                profile: Profile::Default,
-                classes: 1,
-            },
-            b"file 1 K\nmethod f ()V verified\n",
-        ),
-    ];
     let reads = beside_object(rt.alloc(), &K)?;
-    for (command, text) in rows {
-        for left in 0..120 {
-            assert!(rt; is_answered(rt.alloc(), command, &reads, left, (0, text)));
-        }
+    for (command, text) in &ANSWERS {
+        assert!(rt; is_answered_before(rt.alloc(), *command, &reads, 120, (0, *text)));
     }
     Ok(())
 }
@@ -142,22 +158,24 @@ fn with_byte(alloc: Global, place: usize, byte: u8) -> Result<Vec<Read>, AllocEr
     beside_object(alloc, &bytes)
 }
 
-/// A method whose code is one `nop`, one whose code is one `iadd`, and a class whose name is at an index past the
-/// constant pool.
+const FALLS: &[u8] =
+    b"method f ()V refused 71 at 0\n  71 FallsOff: the last instruction of the code goes on\n  stack 0 locals 0\n  0 nop\n  locals\n  stack\n";
+
+const ADDS: &[u8] =
+    b"method f ()V refused 61 at 0\n  61 MissingOperand: the stack holds fewer operands than the instruction takes\n  stack 0 locals 0\n  0 iadd\n  locals\n  stack\n  operand 2 of 2: expected int, found none\n";
+
+const BROKEN: &[u8] =
+    b"class refused 20 pool 1\n  20 BadIndex: an index is 0 where it may not be, past the constant pool, or the second one of a Long or Double\n  constant 1 Class #9\n";
+
+/// A place of K, another byte there, and how the class is explained: a method whose code is one `nop`, one whose code
+/// is one `iadd`, and a class whose name is at an index past the constant pool.
+const EXPLAINED: [(usize, u8, &[u8]); 3] = [(90, 0, FALLS), (90, 0x60, ADDS), (12, 9, BROKEN)];
+
 #[test]
 fn explanations_that_are_cut(rt: HostRuntime) -> Result<(), Fail> {
-    let falls =
-        b"method f ()V refused 71 at 0\n  71 FallsOff: the last instruction of the code goes on\n  stack 0 locals 0\n  0 nop\n  locals\n  stack\n";
-    let adds =
-        b"method f ()V refused 61 at 0\n  61 MissingOperand: the stack holds fewer operands than the instruction takes\n  stack 0 locals 0\n  0 iadd\n  locals\n  stack\n  operand 2 of 2: expected int, found none\n";
-    let broken =
-        b"class refused 20 pool 1\n  20 BadIndex: an index is 0 where it may not be, past the constant pool, or the second one of a Long or Double\n  constant 1 Class #9\n";
-    let rows: [(usize, u8, &[u8]); 3] = [(90, 0, falls), (90, 0x60, adds), (12, 9, broken)];
-    for (place, byte, text) in rows {
-        let reads = with_byte(rt.alloc(), place, byte)?;
-        for left in 0..200 {
-            assert!(rt; is_answered(rt.alloc(), EXPLAIN, &reads, left, (1, text)));
-        }
+    for (place, byte, text) in &EXPLAINED {
+        let reads = with_byte(rt.alloc(), *place, *byte)?;
+        assert!(rt; is_answered_before(rt.alloc(), EXPLAIN, &reads, 200, (1, *text)));
     }
     Ok(())
 }

@@ -5,7 +5,7 @@ use frames::{Frame, VType};
 use hierarchy::{Classes, Rows};
 use insn::{Branches, Insn, decode_code};
 use layout::MAX_CODE_BYTES;
-use lower_calls::making::{CLONING, CONSTRUCTING, array, cloneable, frame, hasher, object};
+use lower_calls::making::{CLONING, CONSTRUCTING, cloneable, frame, hasher, object};
 use names::{Base, OBJECT};
 use rules::{branches, falls};
 use std::alloc::Global;
@@ -192,18 +192,39 @@ fn constructors(rt: HostRuntime) {
     assert!(rt; matches!(judge(alloc, &CONSTRUCTING, &[], true), Err(61)));
 }
 
+/// The number by which a call of `clone` on an object of this type is refused; none where it leaves what it returns.
+fn clone_refusal(alloc: Global, object: VType<'_>) -> Option<u8> {
+    match judge_clone(alloc, object) {
+        Err(number) => Some(number),
+        judged => if leaves(judged, &[VType::Class(OBJECT)]) {
+            None
+        } else {
+            Some(0)
+        },
+    }
+}
+
 /// A protected member of another package is used on objects of the current class alone, which no array is.
+const CLONED: [(VType<'static>, Option<u8>); 6] = [
+    (VType::Class(b"K"), None),
+    (VType::Null, None),
+    (VType::Class(b"A"), Some(82)),
+    (VType::Class(b"B"), Some(77)),
+    (
+        VType::Array {
+            dims: 1,
+            base: Base::Class(b"K"),
+        },
+        Some(82),
+    ),
+    (VType::Int, Some(62)),
+];
+
 #[test]
 fn protected_members(rt: HostRuntime) {
-    let alloc = rt.alloc();
-    let given = [VType::Class(OBJECT)];
-    assert!(rt; leaves(judge_clone(alloc, VType::Class(b"K")), &given));
-    assert!(rt; leaves(judge_clone(alloc, VType::Null), &given));
-    assert!(rt; matches!(judge_clone(alloc, VType::Class(b"A")), Err(82)));
-    assert!(rt; matches!(judge_clone(alloc, VType::Class(b"B")), Err(77)));
-    let array_of_k = array(1, Base::Class(b"K"));
-    assert!(rt; matches!(judge_clone(alloc, array_of_k), Err(82)));
-    assert!(rt; matches!(judge_clone(alloc, VType::Int), Err(62)));
+    for (object, refusal) in &CLONED {
+        assert!(rt; clone_refusal(rt.alloc(), *object) == *refusal);
+    }
 }
 
 /// Whether a `goto`, a `nop` and a `jsr` go the right ways. After `jsr`, which has no rule, code may go on.
@@ -232,11 +253,13 @@ fn ways(rt: HostRuntime) {
     assert!(rt; has_ways(rt.alloc()));
 }
 
+const CODES: [u8; 8] = [0x00, 0x03, 0x09, 0x1B, 0x57, 0x5C, 0x79, 0xAC];
+
 /// With memory enough no answer says that it ran out.
 #[test]
 fn each_rule_answers(rt: HostRuntime) {
-    for code in [0x00, 0x03, 0x09, 0x1B, 0x57, 0x5C, 0x79, 0xAC] {
-        let bytes = with(code);
+    for code in &CODES {
+        let bytes = with(*code);
         assert!(rt;
             !matches!(
                 judge(rt.alloc(), &bytes, &[VType::Int], false),

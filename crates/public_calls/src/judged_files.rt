@@ -1,7 +1,7 @@
 //! Verdicts on the classes that many files are, each judged among all of them and known ones.
-use crate::verified_files::{UNREAD, falling, final_object, malformed, number_of};
+use crate::verified_files::{BAD, CLASS, FALLS, LAST, OBJECT, UNREAD, number_of};
 use classfile::Profile;
-use format_calls::making::{K, O, OUT_OF_MEMORY};
+use format_calls::making::OUT_OF_MEMORY;
 use lower_calls::making::hasher;
 use std::alloc::Global;
 use std::test::*;
@@ -38,25 +38,22 @@ fn are_told(alloc: Global, files: &[FileRead<'_>], known: &[FileRead<'_>], numbe
     }
 }
 
+/// Files, known ones, and the numbers by which the files are refused.
+const EACH: [(&[FileRead<'static>], &[FileRead<'static>], &[u8]); 7] = [
+    (&[CLASS, OBJECT], &[], &[0, 0]),
+    (&[CLASS], &[OBJECT], &[0]),
+    (&[], &[OBJECT], &[]),
+    (&[UNREAD, CLASS], &[UNREAD, OBJECT], &[15, 0]),
+    (&[BAD, CLASS, OBJECT], &[], &[24, 0, 0]),
+    (&[FALLS, CLASS], &[OBJECT], &[0, 0]),
+    (&[CLASS], &[LAST], &[81]),
+];
+
 #[test]
 fn each_of_many_files(rt: HostRuntime) {
-    let alloc = rt.alloc();
-    let (bad, falls, last) = (malformed(), falling(), final_object());
-    let (class, object) = (FileRead::Bytes(&K), FileRead::Bytes(&O));
-    assert!(rt; are_told(alloc, &[class, object], &[], &[0, 0]));
-    assert!(rt; are_told(alloc, &[class], &[object], &[0]));
-    assert!(rt; are_told(alloc, &[], &[object], &[]));
-    assert!(rt; are_told(alloc, &[UNREAD, class], &[UNREAD, object], &[15, 0]));
-    assert!(rt;
-        are_told(
-            alloc,
-            &[FileRead::Bytes(&bad), class, object],
-            &[],
-            &[24, 0, 0]
-        )
-    );
-    assert!(rt; are_told(alloc, &[FileRead::Bytes(&falls), class], &[object], &[0, 0]));
-    assert!(rt; are_told(alloc, &[class], &[FileRead::Bytes(&last)], &[81]));
+    for (files, known, numbers) in &EACH {
+        assert!(rt; are_told(rt.alloc(), *files, *known, *numbers));
+    }
 }
 
 /// Whether there are verdicts on a class K of one method.
@@ -72,8 +69,7 @@ fn is_of_k(judgement: &Judgement<'_>) -> bool {
 
 /// Whether there are verdicts on the methods of K by this profile.
 fn is_reported(alloc: Global, profile: Profile) -> bool {
-    let (class, object) = (FileRead::Bytes(&K), FileRead::Bytes(&O));
-    match verify_each(alloc, profile, &[class], &[object], hasher()) {
+    match verify_each(alloc, profile, &[CLASS], &[OBJECT], hasher()) {
         Ok(judgements) => match judgements.as_slice() {
             [judgement] => is_of_k(judgement),
             _ => false,
@@ -99,7 +95,7 @@ fn refusal_of_all(alloc: Global, files: &[FileRead<'_>]) -> u8 {
 
 #[test]
 fn files_without_object(rt: HostRuntime) {
-    assert!(rt; refusal_of_all(rt.alloc(), &[FileRead::Bytes(&K)]) == 43);
+    assert!(rt; refusal_of_all(rt.alloc(), &[CLASS]) == 43);
     assert!(rt; refusal_of_all(rt.alloc(), &[UNREAD]) == 43);
     assert!(rt; refusal_of_all(rt.alloc(), &[]) == 43);
 }
@@ -107,6 +103,6 @@ fn files_without_object(rt: HostRuntime) {
 /// Where memory runs out the answer is 1, and otherwise as ever.
 #[test]
 fn memory_runs_out_for_many_files(rt: HostRuntime) {
-    let told = refusal_of_all(rt.alloc(), &[FileRead::Bytes(&K), FileRead::Bytes(&O)]);
+    let told = refusal_of_all(rt.alloc(), &[CLASS, OBJECT]);
     assert!(rt; told == 0 || told == OUT_OF_MEMORY);
 }

@@ -227,14 +227,16 @@ fn exceptions_are_caught_or_not(rt: HostRuntime) {
     assert!(rt; is_uncaught(rt.alloc()));
 }
 
+const CODES: [u8; 11] = [
+    0x00, 0x03, 0x09, 0x1B, 0x3C, 0x57, 0x5C, 0x79, 0xA7, 0xAC, 0xB1,
+];
+
 /// With memory enough no answer says that it ran out.
 #[test]
 fn each_step_answers(rt: HostRuntime) {
     let on = go(rt.alloc(), None, None);
-    for code in [
-        0x00, 0x03, 0x09, 0x1B, 0x3C, 0x57, 0x5C, 0x79, 0xA7, 0xAC, 0xB1,
-    ] {
-        assert!(rt; !matches!(outcome(rt.alloc(), code, &on), (_, _, OUT_OF_MEMORY)));
+    for code in &CODES {
+        assert!(rt; !matches!(outcome(rt.alloc(), *code, &on), (_, _, OUT_OF_MEMORY)));
     }
 }
 

@@ -34,41 +34,30 @@ fn naming(code: [u8; 5]) -> [u8; 190] {
     bytes
 }
 
-/// At 1 an array of K, at 2 a K, at 3 an object of no other class, at 4 a K that is not initialized yet.
+const K: RunType<'static> = RunType::Class(b"K");
+
+const ARRAY_OF_K: RunType<'static> = RunType::Array {
+    dims: 1,
+    base: Base::Class(b"K"),
+};
+
+/// An array of K, a K, an object of no other class, and a K that is not initialized yet.
+const OBJECTS: [(u32, RunType<'static>, Status); 4] = [
+    (1, ARRAY_OF_K, Status::Ready),
+    (2, K, Status::Ready),
+    (3, RunType::Class(OBJECT), Status::Ready),
+    (4, K, Status::Made),
+];
+
 fn objects<'a>(alloc: Global) -> Result<BTreeMap<u32, Object<'a>>, AllocFailed<(u32, Object<'a>)>> {
-    let array = RunType::Array {
-        dims: 1,
-        base: Base::Class(b"K"),
-    };
     let mut heap = BTreeMap::new(alloc);
-    heap.insert(
-        1,
-        Object {
-            run_type: array,
-            status: Status::Ready,
-        },
-    )?;
-    heap.insert(
-        2,
-        Object {
-            run_type: RunType::Class(b"K"),
-            status: Status::Ready,
-        },
-    )?;
-    heap.insert(
-        3,
-        Object {
-            run_type: RunType::Class(OBJECT),
-            status: Status::Ready,
-        },
-    )?;
-    heap.insert(
-        4,
-        Object {
-            run_type: RunType::Class(b"K"),
-            status: Status::Made,
-        },
-    )?;
+    for (address, run_type, status) in &OBJECTS {
+        let object = Object {
+            run_type: *run_type,
+            status: *status,
+        };
+        heap.insert(*address, object)?;
+    }
     Ok(heap)
 }
 
@@ -129,6 +118,38 @@ fn refuses(alloc: Global, code: [u8; 5], stack: &[Value], answer: Option<Value>)
     matches!(stepped(alloc, &bytes, stack, answer), Err(54))
 }
 
+/// The outcome of an instruction.
+#[derive(Clone, Copy)]
+enum Expected<'a> {
+    /// It is taken to this stack.
+    Taken(&'a [Value]),
+    /// The state before it is a fault.
+    Fault,
+    /// Nothing comes of the answer.
+    Refused,
+}
+
+/// The first bytes of code, the stack before their first instruction, the answer, and what is expected.
+type Row<'a> = ([u8; 5], &'a [Value], Option<Value>, Expected<'a>);
+
+fn is_expected(alloc: Global, row: &Row<'_>) -> bool {
+    let (code, before, answer, expected) = row;
+    match expected {
+        Expected::Taken(after) => takes(alloc, *code, *before, *answer, *after),
+        Expected::Fault => faults(alloc, *code, *before),
+        Expected::Refused => refuses(alloc, *code, *before, *answer),
+    }
+}
+
+fn are_expected(alloc: Global, rows: &[Row<'_>]) -> bool {
+    for row in rows {
+        if !is_expected(alloc, row) {
+            return false;
+        }
+    }
+    true
+}
+
 const INT: Value = Value::Int;
 
 const NULL: Value = Value::Null;
@@ -144,78 +165,154 @@ const MADE: Value = Value::Ref(4);
 const UNUSED: Value = Value::Ref(9);
 
 /// `aconst_null`, `ldc`, `aload_0`, `astore_0`
+const REFERENCES_AND_CONSTANTS: [Row<'static>; 7] = [
+    ([0x01, 0, 0, 0, 0], &[], None, Expected::Taken(&[NULL])),
+    (
+        [0x12, 20, 0, 0, 0],
+        &[],
+        Some(NULL),
+        Expected::Taken(&[NULL]),
+    ),
+    ([0x12, 20, 0, 0, 0], &[], Some(INT), Expected::Refused),
+    ([0x2A, 0, 0, 0, 0], &[], None, Expected::Taken(&[READY])),
+    ([0x2B, 0, 0, 0, 0], &[], None, Expected::Fault),
+    ([0x4B, 0, 0, 0, 0], &[MADE], None, Expected::Taken(&[])),
+    ([0x4B, 0, 0, 0, 0], &[INT], None, Expected::Fault),
+];
+
 #[test]
 fn references_and_constants(rt: HostRuntime) {
-    let alloc = rt.alloc();
-    assert!(rt; takes(alloc, [0x01, 0, 0, 0, 0], &[], None, &[NULL]));
-    assert!(rt; takes(alloc, [0x12, 20, 0, 0, 0], &[], Some(NULL), &[NULL]));
-    assert!(rt; refuses(alloc, [0x12, 20, 0, 0, 0], &[], Some(INT)));
-    assert!(rt; takes(alloc, [0x2A, 0, 0, 0, 0], &[], None, &[READY]));
-    assert!(rt; faults(alloc, [0x2B, 0, 0, 0, 0], &[]));
-    assert!(rt; takes(alloc, [0x4B, 0, 0, 0, 0], &[MADE], None, &[]));
-    assert!(rt; faults(alloc, [0x4B, 0, 0, 0, 0], &[INT]));
+    assert!(rt; are_expected(rt.alloc(), &REFERENCES_AND_CONSTANTS));
 }
 
 /// `getstatic`, `putstatic`
+const FIELDS_OF_CLASSES: [Row<'static>; 5] = [
+    (
+        [0xB2, 0, 11, 0, 0],
+        &[],
+        Some(READY),
+        Expected::Taken(&[READY]),
+    ),
+    ([0xB2, 0, 11, 0, 0], &[], Some(OTHER), Expected::Refused),
+    ([0xB2, 0, 15, 0, 0], &[], None, Expected::Fault),
+    ([0xB3, 0, 11, 0, 0], &[READY], None, Expected::Taken(&[])),
+    ([0xB3, 0, 11, 0, 0], &[OTHER], None, Expected::Fault),
+];
+
 #[test]
 fn fields_of_classes(rt: HostRuntime) {
-    let alloc = rt.alloc();
-    assert!(rt; takes(alloc, [0xB2, 0, 11, 0, 0], &[], Some(READY), &[READY]));
-    assert!(rt; refuses(alloc, [0xB2, 0, 11, 0, 0], &[], Some(OTHER)));
-    assert!(rt; faults(alloc, [0xB2, 0, 15, 0, 0], &[]));
-    assert!(rt; takes(alloc, [0xB3, 0, 11, 0, 0], &[READY], None, &[]));
-    assert!(rt; faults(alloc, [0xB3, 0, 11, 0, 0], &[OTHER]));
+    assert!(rt; are_expected(rt.alloc(), &FIELDS_OF_CLASSES));
 }
 
 /// `getfield`, `putfield`
+const FIELDS_OF_OBJECTS: [Row<'static>; 6] = [
+    (
+        [0xB4, 0, 11, 0, 0],
+        &[READY],
+        Some(NULL),
+        Expected::Taken(&[NULL]),
+    ),
+    ([0xB4, 0, 11, 0, 0], &[NULL], Some(NULL), Expected::Refused),
+    ([0xB4, 0, 11, 0, 0], &[MADE], None, Expected::Fault),
+    (
+        [0xB5, 0, 11, 0, 0],
+        &[READY, NULL],
+        None,
+        Expected::Taken(&[]),
+    ),
+    ([0xB5, 0, 11, 0, 0], &[NULL, NULL], None, Expected::Refused),
+    ([0xB5, 0, 11, 0, 0], &[OTHER, NULL], None, Expected::Fault),
+];
+
 #[test]
 fn fields_of_objects(rt: HostRuntime) {
-    let alloc = rt.alloc();
-    assert!(rt; takes(alloc, [0xB4, 0, 11, 0, 0], &[READY], Some(NULL), &[NULL]));
-    assert!(rt; refuses(alloc, [0xB4, 0, 11, 0, 0], &[NULL], Some(NULL)));
-    assert!(rt; faults(alloc, [0xB4, 0, 11, 0, 0], &[MADE]));
-    assert!(rt; takes(alloc, [0xB5, 0, 11, 0, 0], &[READY, NULL], None, &[]));
-    assert!(rt; refuses(alloc, [0xB5, 0, 11, 0, 0], &[NULL, NULL], None));
-    assert!(rt; faults(alloc, [0xB5, 0, 11, 0, 0], &[OTHER, NULL]));
+    assert!(rt; are_expected(rt.alloc(), &FIELDS_OF_OBJECTS));
 }
 
 /// `invokestatic`, `invokevirtual`
+const CALLS: [Row<'static>; 6] = [
+    (
+        [0xB8, 0, 15, 0, 0],
+        &[INT],
+        Some(READY),
+        Expected::Taken(&[READY]),
+    ),
+    ([0xB8, 0, 15, 0, 0], &[INT], Some(OTHER), Expected::Refused),
+    ([0xB8, 0, 15, 0, 0], &[], None, Expected::Fault),
+    (
+        [0xB6, 0, 15, 0, 0],
+        &[READY, INT],
+        Some(NULL),
+        Expected::Taken(&[NULL]),
+    ),
+    (
+        [0xB6, 0, 15, 0, 0],
+        &[NULL, INT],
+        Some(NULL),
+        Expected::Refused,
+    ),
+    ([0xB6, 0, 15, 0, 0], &[OTHER, INT], None, Expected::Fault),
+];
+
 #[test]
 fn calls(rt: HostRuntime) {
-    let alloc = rt.alloc();
-    let (given, null) = ([READY, INT], Some(NULL));
-    assert!(rt; takes(alloc, [0xB8, 0, 15, 0, 0], &[INT], Some(READY), &[READY]));
-    assert!(rt; refuses(alloc, [0xB8, 0, 15, 0, 0], &[INT], Some(OTHER)));
-    assert!(rt; faults(alloc, [0xB8, 0, 15, 0, 0], &[]));
-    assert!(rt; takes(alloc, [0xB6, 0, 15, 0, 0], &given, null, &[NULL]));
-    assert!(rt; refuses(alloc, [0xB6, 0, 15, 0, 0], &[NULL, INT], null));
-    assert!(rt; faults(alloc, [0xB6, 0, 15, 0, 0], &[OTHER, INT]));
+    assert!(rt; are_expected(rt.alloc(), &CALLS));
 }
 
 /// `invokeinterface`, and `invokespecial` of a method that is not a constructor
+const SPECIAL_CALLS: [Row<'static>; 6] = [
+    (
+        [0xB9, 0, 19, 2, 0],
+        &[READY, INT],
+        Some(NULL),
+        Expected::Taken(&[NULL]),
+    ),
+    (
+        [0xB9, 0, 19, 2, 0],
+        &[NULL, INT],
+        Some(NULL),
+        Expected::Refused,
+    ),
+    ([0xB9, 0, 19, 1, 0], &[READY, INT], None, Expected::Fault),
+    (
+        [0xB7, 0, 15, 0, 0],
+        &[READY, INT],
+        Some(NULL),
+        Expected::Taken(&[NULL]),
+    ),
+    ([0xB7, 0, 15, 0, 0], &[READY, INT], None, Expected::Refused),
+    ([0xB7, 0, 15, 0, 0], &[MADE, INT], None, Expected::Fault),
+];
+
 #[test]
 fn special_calls(rt: HostRuntime) {
-    let alloc = rt.alloc();
-    let (given, null) = ([READY, INT], Some(NULL));
-    assert!(rt; takes(alloc, [0xB9, 0, 19, 2, 0], &given, null, &[NULL]));
-    assert!(rt; refuses(alloc, [0xB9, 0, 19, 2, 0], &[NULL, INT], null));
-    assert!(rt; faults(alloc, [0xB9, 0, 19, 1, 0], &given));
-    assert!(rt; takes(alloc, [0xB7, 0, 15, 0, 0], &given, null, &[NULL]));
-    assert!(rt; refuses(alloc, [0xB7, 0, 15, 0, 0], &given, None));
-    assert!(rt; faults(alloc, [0xB7, 0, 15, 0, 0], &[MADE, INT]));
+    assert!(rt; are_expected(rt.alloc(), &SPECIAL_CALLS));
 }
 
 /// `new`, and `invokespecial` of a constructor
+const CREATIONS: [Row<'static>; 6] = [
+    (
+        [0xBB, 0, 1, 0, 0],
+        &[],
+        Some(UNUSED),
+        Expected::Taken(&[UNUSED]),
+    ),
+    ([0xBB, 0, 1, 0, 0], &[], Some(READY), Expected::Refused),
+    ([0xBB, 0, 21, 0, 0], &[], None, Expected::Fault),
+    (
+        [0xB7, 0, 18, 0, 0],
+        &[MADE, MADE],
+        None,
+        Expected::Taken(&[MADE]),
+    ),
+    ([0xB7, 0, 18, 0, 0], &[MADE], Some(NULL), Expected::Refused),
+    ([0xB7, 0, 18, 0, 0], &[READY], None, Expected::Fault),
+];
+
 #[test]
 fn creations(rt: HostRuntime) {
-    let alloc = rt.alloc();
-    assert!(rt; takes(alloc, [0xBB, 0, 1, 0, 0], &[], Some(UNUSED), &[UNUSED]));
-    assert!(rt; refuses(alloc, [0xBB, 0, 1, 0, 0], &[], Some(READY)));
-    assert!(rt; faults(alloc, [0xBB, 0, 21, 0, 0], &[]));
-    assert!(rt; takes(alloc, [0xB7, 0, 18, 0, 0], &[MADE, MADE], None, &[MADE]));
-    assert!(rt; refuses(alloc, [0xB7, 0, 18, 0, 0], &[MADE], Some(NULL)));
-    assert!(rt; faults(alloc, [0xB7, 0, 18, 0, 0], &[READY]));
-    assert!(rt; is_initialized(alloc));
+    assert!(rt; are_expected(rt.alloc(), &CREATIONS));
+    assert!(rt; is_initialized(rt.alloc()));
 }
 
 /// Whether the object is ready after its constructor.
@@ -231,74 +328,121 @@ fn is_initialized(alloc: Global) -> bool {
 }
 
 /// `aaload`, `aastore`, `iaload`, `arraylength`
+const ARRAYS: [Row<'static>; 8] = [
+    (
+        [0x32, 0, 0, 0, 0],
+        &[ARRAY, INT],
+        Some(READY),
+        Expected::Taken(&[READY]),
+    ),
+    (
+        [0x32, 0, 0, 0, 0],
+        &[ARRAY, INT],
+        Some(OTHER),
+        Expected::Refused,
+    ),
+    ([0x32, 0, 0, 0, 0], &[READY, INT], None, Expected::Fault),
+    (
+        [0x53, 0, 0, 0, 0],
+        &[ARRAY, INT, OTHER],
+        None,
+        Expected::Taken(&[]),
+    ),
+    (
+        [0x53, 0, 0, 0, 0],
+        &[NULL, INT, OTHER],
+        None,
+        Expected::Refused,
+    ),
+    ([0x2E, 0, 0, 0, 0], &[ARRAY, INT], None, Expected::Fault),
+    ([0xBE, 0, 0, 0, 0], &[ARRAY], None, Expected::Taken(&[INT])),
+    ([0xBE, 0, 0, 0, 0], &[NULL], None, Expected::Refused),
+];
+
 #[test]
 fn arrays(rt: HostRuntime) {
-    let alloc = rt.alloc();
-    assert!(rt;
-        takes(
-            alloc,
-            [0x32, 0, 0, 0, 0],
-            &[ARRAY, INT],
-            Some(READY),
-            &[READY]
-        )
-    );
-    assert!(rt; refuses(alloc, [0x32, 0, 0, 0, 0], &[ARRAY, INT], Some(OTHER)));
-    assert!(rt; faults(alloc, [0x32, 0, 0, 0, 0], &[READY, INT]));
-    assert!(rt; takes(alloc, [0x53, 0, 0, 0, 0], &[ARRAY, INT, OTHER], None, &[]));
-    assert!(rt; refuses(alloc, [0x53, 0, 0, 0, 0], &[NULL, INT, OTHER], None));
-    assert!(rt; faults(alloc, [0x2E, 0, 0, 0, 0], &[ARRAY, INT]));
-    assert!(rt; takes(alloc, [0xBE, 0, 0, 0, 0], &[ARRAY], None, &[INT]));
-    assert!(rt; refuses(alloc, [0xBE, 0, 0, 0, 0], &[NULL], None));
+    assert!(rt; are_expected(rt.alloc(), &ARRAYS));
 }
 
 /// `newarray`, `anewarray`, `multianewarray`
+const NEW_ARRAYS: [Row<'static>; 5] = [
+    (
+        [0xBC, 10, 0, 0, 0],
+        &[INT],
+        Some(UNUSED),
+        Expected::Taken(&[UNUSED]),
+    ),
+    ([0xBC, 10, 0, 0, 0], &[INT], Some(ARRAY), Expected::Refused),
+    (
+        [0xBD, 0, 1, 0, 0],
+        &[INT],
+        Some(UNUSED),
+        Expected::Taken(&[UNUSED]),
+    ),
+    ([0xC5, 0, 21, 2, 0], &[INT, INT], None, Expected::Fault),
+    (
+        [0xC5, 0, 21, 1, 0],
+        &[INT],
+        Some(UNUSED),
+        Expected::Taken(&[UNUSED]),
+    ),
+];
+
 #[test]
 fn new_arrays(rt: HostRuntime) {
-    let (alloc, unused) = (rt.alloc(), Some(UNUSED));
-    assert!(rt; takes(alloc, [0xBC, 10, 0, 0, 0], &[INT], unused, &[UNUSED]));
-    assert!(rt; refuses(alloc, [0xBC, 10, 0, 0, 0], &[INT], Some(ARRAY)));
-    assert!(rt; takes(alloc, [0xBD, 0, 1, 0, 0], &[INT], unused, &[UNUSED]));
-    assert!(rt; faults(alloc, [0xC5, 0, 21, 2, 0], &[INT, INT]));
-    assert!(rt; takes(alloc, [0xC5, 0, 21, 1, 0], &[INT], unused, &[UNUSED]));
+    assert!(rt; are_expected(rt.alloc(), &NEW_ARRAYS));
 }
 
 /// `checkcast`, `instanceof`
+const CASTS: [Row<'static>; 5] = [
+    (
+        [0xC0, 0, 1, 0, 0],
+        &[READY],
+        None,
+        Expected::Taken(&[READY]),
+    ),
+    ([0xC0, 0, 1, 0, 0], &[OTHER], None, Expected::Refused),
+    ([0xC0, 0, 1, 0, 0], &[INT], None, Expected::Fault),
+    ([0xC1, 0, 1, 0, 0], &[OTHER], None, Expected::Taken(&[INT])),
+    ([0xC1, 0, 1, 0, 0], &[MADE], None, Expected::Fault),
+];
+
 #[test]
 fn casts(rt: HostRuntime) {
-    let alloc = rt.alloc();
-    assert!(rt; takes(alloc, [0xC0, 0, 1, 0, 0], &[READY], None, &[READY]));
-    assert!(rt; refuses(alloc, [0xC0, 0, 1, 0, 0], &[OTHER], None));
-    assert!(rt; faults(alloc, [0xC0, 0, 1, 0, 0], &[INT]));
-    assert!(rt; takes(alloc, [0xC1, 0, 1, 0, 0], &[OTHER], None, &[INT]));
-    assert!(rt; faults(alloc, [0xC1, 0, 1, 0, 0], &[MADE]));
+    assert!(rt; are_expected(rt.alloc(), &CASTS));
 }
 
 /// `monitorenter`, `athrow`, `areturn`
+const MONITORS_AND_ENDS: [Row<'static>; 6] = [
+    ([0xC2, 0, 0, 0, 0], &[MADE], None, Expected::Taken(&[])),
+    ([0xC2, 0, 0, 0, 0], &[NULL], None, Expected::Refused),
+    ([0xC2, 0, 0, 0, 0], &[INT], None, Expected::Fault),
+    ([0xBF, 0, 0, 0, 0], &[NULL], None, Expected::Refused),
+    ([0xBF, 0, 0, 0, 0], &[READY], None, Expected::Fault),
+    ([0xB0, 0, 0, 0, 0], &[READY], None, Expected::Fault),
+];
+
 #[test]
 fn monitors_and_ends(rt: HostRuntime) {
-    let alloc = rt.alloc();
-    assert!(rt; takes(alloc, [0xC2, 0, 0, 0, 0], &[MADE], None, &[]));
-    assert!(rt; refuses(alloc, [0xC2, 0, 0, 0, 0], &[NULL], None));
-    assert!(rt; faults(alloc, [0xC2, 0, 0, 0, 0], &[INT]));
-    assert!(rt; refuses(alloc, [0xBF, 0, 0, 0, 0], &[NULL], None));
-    assert!(rt; faults(alloc, [0xBF, 0, 0, 0, 0], &[READY]));
-    assert!(rt; faults(alloc, [0xB0, 0, 0, 0, 0], &[READY]));
+    assert!(rt; are_expected(rt.alloc(), &MONITORS_AND_ENDS));
 }
+
+/// Instructions of several kinds.
+const CODES: [[u8; 5]; 7] = [
+    [0x12, 20, 0, 0, 0],
+    [0xB5, 0, 11, 0, 0],
+    [0xB6, 0, 15, 0, 0],
+    [0xB7, 0, 18, 0, 0],
+    [0xB9, 0, 19, 2, 0],
+    [0xBB, 0, 1, 0, 0],
+    [0xC5, 0, 21, 1, 0],
+];
 
 /// With memory enough no answer says that it ran out.
 #[test]
 fn each_step_answers(rt: HostRuntime) {
-    for code in [
-        [0x12, 20, 0, 0, 0],
-        [0xB5, 0, 11, 0, 0],
-        [0xB6, 0, 15, 0, 0],
-        [0xB7, 0, 18, 0, 0],
-        [0xB9, 0, 19, 2, 0],
-        [0xBB, 0, 1, 0, 0],
-        [0xC5, 0, 21, 1, 0],
-    ] {
-        let bytes = naming(code);
+    for code in &CODES {
+        let bytes = naming(*code);
         let answered = stepped(rt.alloc(), &bytes, &[MADE, INT], None);
         assert!(rt; !matches!(answered, Err(OUT_OF_MEMORY)));
     }

@@ -233,13 +233,15 @@ fn is_written_and_reported(alloc: Global, bytes: &[u8]) -> bool {
     }
 }
 
+const CODES: [u8; 10] = [0x00, 0x03, 0x09, 0x1B, 0x57, 0x5C, 0x79, 0xAC, 0xB1, 0xCA];
+
 /// With memory enough no answer says that it ran out.
 #[test]
 fn each_class_is_reported(rt: HostRuntime) {
     assert!(rt; is_written_and_reported(rt.alloc(), &catching([0x03, 0xAC])));
-    for opcode in [0x00, 0x03, 0x09, 0x1B, 0x57, 0x5C, 0x79, 0xAC, 0xB1, 0xCA] {
+    for code in &CODES {
         let mut bytes = K;
-        bytes[90] = opcode;
+        bytes[90] = *code;
         assert!(rt; is_written_and_reported(rt.alloc(), &bytes));
     }
 }

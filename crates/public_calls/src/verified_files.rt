@@ -14,27 +14,41 @@ type Told = Result<usize, (usize, u8)>;
 /// A file that could not be read after its first three bytes.
 pub const UNREAD: FileRead<'static> = FileRead::Unread(ReadFault::ReadFailed { at: 3 });
 
-/// K as a class that is final and abstract.
-pub fn malformed() -> [u8; 97] {
-    let mut bytes = K;
-    bytes[56] = 0x04;
-    bytes[57] = 0x31;
-    bytes
+/// The class file of K, with these two bytes as the flags of the class, and this byte as the code of its method.
+macro_rules! class_k {
+    ($high:expr, $low:expr, $code:expr) => {
+        [
+            0xCA, 0xFE, 0xBA, 0xBE, 0, 0, 0, 0x34, 0, 8, 7, 0, 2, 1, 0, 1, 0x4B, 7, 0, 4, 1, 0, 0x10,
+            0x6A, 0x61, 0x76, 0x61, 0x2F, 0x6C, 0x61, 0x6E, 0x67, 0x2F, 0x4F, 0x62, 0x6A, 0x65, 0x63,
+            0x74, 1, 0, 1, 0x66, 1, 0, 3, 0x28, 0x29, 0x56, 1, 0, 4, 0x43, 0x6F, 0x64, 0x65, $high,
+            $low, 0, 1, 0, 3, 0, 0, 0, 0, 0, 1, 0, 9, 0, 5, 0, 6, 0, 1, 0, 7, 0, 0, 0, 0x0D, 0, 0,
+            0, 0, 0, 0, 0, 1, $code, 0, 0, 0, 0, 0, 0,
+        ]
+    };
 }
+
+/// K as a class that is final and abstract.
+const MALFORMED: [u8; 97] = class_k!(0x04, 0x31, 0xB1);
 
 /// K with `nop` in place of the `return` of its method, so that code runs off its end.
-pub fn falling() -> [u8; 97] {
-    let mut bytes = K;
-    bytes[90] = 0;
-    bytes
-}
+const FALLING: [u8; 97] = class_k!(0, 0x21, 0x00);
 
 /// A final `java/lang/Object`.
-pub fn final_object() -> [u8; 46] {
-    let mut bytes = O;
-    bytes[33] = 0x31;
-    bytes
-}
+const FINAL_OBJECT: [u8; 46] = [
+    0xCA, 0xFE, 0xBA, 0xBE, 0, 0, 0, 0x34, 0, 3, 7, 0, 2, 1, 0, 0x10, 0x6A, 0x61, 0x76, 0x61, 0x2F,
+    0x6C, 0x61, 0x6E, 0x67, 0x2F, 0x4F, 0x62, 0x6A, 0x65, 0x63, 0x74, 0, 0x31, 0, 1, 0, 0, 0, 0, 0,
+    0, 0, 0, 0, 0,
+];
+
+pub const CLASS: FileRead<'static> = FileRead::Bytes(&K);
+
+pub const OBJECT: FileRead<'static> = FileRead::Bytes(&O);
+
+pub const BAD: FileRead<'static> = FileRead::Bytes(&MALFORMED);
+
+pub const FALLS: FileRead<'static> = FileRead::Bytes(&FALLING);
+
+pub const LAST: FileRead<'static> = FileRead::Bytes(&FINAL_OBJECT);
 
 /// The number by which a file is refused.
 pub fn number_of(fault: &FileFault) -> u8 {
@@ -53,14 +67,20 @@ fn alone(alloc: Global, file: FileRead<'_>) -> Told {
     }
 }
 
+/// Files alone, and what is told of them.
+const ALONE: [(FileRead<'static>, Told); 4] = [
+    (CLASS, Ok(1)),
+    (OBJECT, Ok(0)),
+    (UNREAD, Err((0, 15))),
+    (BAD, Err((0, 24))),
+];
+
 #[test]
 fn classes_of_files(rt: HostRuntime) {
-    let (alloc, bad) = (rt.alloc(), malformed());
-    assert!(rt; alone(alloc, FileRead::Bytes(&K)) == Ok(1));
-    assert!(rt; alone(alloc, FileRead::Bytes(&O)) == Ok(0));
-    assert!(rt; alone(alloc, UNREAD) == Err((0, 15)));
-    assert!(rt; alone(alloc, FileRead::Bytes(&K[..96])) == Err((0, 2)));
-    assert!(rt; alone(alloc, FileRead::Bytes(&bad)) == Err((0, 24)));
+    for (file, told) in &ALONE {
+        assert!(rt; alone(rt.alloc(), *file) == *told);
+    }
+    assert!(rt; alone(rt.alloc(), FileRead::Bytes(&K[..96])) == Err((0, 2)));
 }
 
 fn of_among(fault: &AmongFault<'_>) -> (usize, u8) {
@@ -81,17 +101,21 @@ fn among(alloc: Global, class: FileRead<'_>, known: &[FileRead<'_>]) -> Told {
     }
 }
 
+/// A file, known ones, and what is told of the file among them.
+const AMONG: [(FileRead<'static>, &[FileRead<'static>], Told); 6] = [
+    (CLASS, &[OBJECT], Ok(1)),
+    (FALLS, &[OBJECT], Ok(1)),
+    (UNREAD, &[OBJECT], Err((0, 15))),
+    (CLASS, &[OBJECT, UNREAD], Err((2, 15))),
+    (CLASS, &[], Err((0, 42))),
+    (CLASS, &[LAST], Err((0, 81))),
+];
+
 #[test]
 fn classes_among_known_ones(rt: HostRuntime) {
-    let alloc = rt.alloc();
-    let (falls, last) = (falling(), final_object());
-    let (class, object) = (FileRead::Bytes(&K), FileRead::Bytes(&O));
-    assert!(rt; among(alloc, class, &[object]) == Ok(1));
-    assert!(rt; among(alloc, FileRead::Bytes(&falls), &[object]) == Ok(1));
-    assert!(rt; among(alloc, UNREAD, &[object]) == Err((0, 15)));
-    assert!(rt; among(alloc, class, &[object, UNREAD]) == Err((2, 15)));
-    assert!(rt; among(alloc, class, &[]) == Err((0, 42)));
-    assert!(rt; among(alloc, class, &[FileRead::Bytes(&last)]) == Err((0, 81)));
+    for (class, known, told) in &AMONG {
+        assert!(rt; among(rt.alloc(), *class, *known) == *told);
+    }
 }
 
 fn of_together(fault: &TogetherFault<'_>) -> (usize, u8) {
@@ -112,37 +136,41 @@ fn together(alloc: Global, files: &[FileRead<'_>]) -> Told {
     }
 }
 
+/// Files, and what is told of them in play together.
+const TOGETHER: [(&[FileRead<'static>], Told); 9] = [
+    (&[CLASS, OBJECT], Ok(2)),
+    (&[OBJECT], Ok(1)),
+    (&[], Err((0, 43))),
+    (&[CLASS], Err((0, 42))),
+    (&[CLASS, OBJECT, CLASS], Err((0, 40))),
+    (&[OBJECT, UNREAD], Err((2, 15))),
+    (&[OBJECT, BAD], Err((2, 24))),
+    (&[LAST, CLASS], Err((2, 81))),
+    (&[OBJECT, FALLS], Err((2, 84))),
+];
+
 #[test]
 fn files_in_play(rt: HostRuntime) {
-    let alloc = rt.alloc();
-    let (bad, falls, last) = (malformed(), falling(), final_object());
-    let (class, object) = (FileRead::Bytes(&K), FileRead::Bytes(&O));
-    assert!(rt; together(alloc, &[class, object]) == Ok(2));
-    assert!(rt; together(alloc, &[object]) == Ok(1));
-    assert!(rt; together(alloc, &[]) == Err((0, 43)));
-    assert!(rt; together(alloc, &[class]) == Err((0, 42)));
-    assert!(rt; together(alloc, &[class, object, class]) == Err((0, 40)));
-    assert!(rt; together(alloc, &[object, UNREAD]) == Err((2, 15)));
-    assert!(rt; together(alloc, &[object, FileRead::Bytes(&bad)]) == Err((2, 24)));
-    assert!(rt; together(alloc, &[FileRead::Bytes(&last), class]) == Err((2, 81)));
-    assert!(rt; together(alloc, &[object, FileRead::Bytes(&falls)]) == Err((2, 84)));
+    for (files, told) in &TOGETHER {
+        assert!(rt; together(rt.alloc(), *files) == *told);
+    }
 }
 
 /// Where memory runs out each returns 1, and otherwise as ever.
 #[test]
 fn memory_runs_out_for_a_file(rt: HostRuntime) {
-    let told = alone(rt.alloc(), FileRead::Bytes(&K));
+    let told = alone(rt.alloc(), CLASS);
     assert!(rt; told == Ok(1) || told == Err((0, OUT_OF_MEMORY)));
 }
 
 #[test]
 fn memory_runs_out_for_a_class_among_others(rt: HostRuntime) {
-    let told = among(rt.alloc(), FileRead::Bytes(&K), &[FileRead::Bytes(&O)]);
+    let told = among(rt.alloc(), CLASS, &[OBJECT]);
     assert!(rt; told == Ok(1) || told == Err((0, OUT_OF_MEMORY)));
 }
 
 #[test]
 fn memory_runs_out_for_files_in_play(rt: HostRuntime) {
-    let told = together(rt.alloc(), &[FileRead::Bytes(&K), FileRead::Bytes(&O)]);
+    let told = together(rt.alloc(), &[CLASS, OBJECT]);
     assert!(rt; told == Ok(2) || told == Err((0, OUT_OF_MEMORY)));
 }

@@ -3,7 +3,7 @@ use crate::machine_steps::machine_method;
 use crate::walks::{Stop, Walk, answered_first, on, stop_of, walk_from};
 use classfile::{ClassFile, Formed, decode, form_check};
 use format_calls::making::{K, OUT_OF_MEMORY};
-use hierarchy::{Rows, summary_of};
+use hierarchy::{Classes, Rows, summary_of};
 use lower_calls::making::{hasher, object};
 use machine::{Choice, State, Value};
 use std::alloc::Global;
@@ -73,6 +73,35 @@ fn state_at<'a>(alloc: Global, at: u16) -> State<'a> {
     }
 }
 
+/// The walk of the class's one method by `walk` alone.
+fn walk_unasked<'a, C: Classes>(
+    alloc: Global,
+    formed: &Formed<'_, 'a>,
+    classes: &C,
+    choices: &[Choice<'a>],
+) -> Walk {
+    let method = machine_method(alloc, formed)?;
+    walk_from(alloc, &method, &[], &BTreeMap::new(alloc), choices, classes)
+}
+
+/// The walk of the class's one method by `walk_verified`, from this offset.
+fn walk_by_verdict<'a, C: Classes>(
+    alloc: Global,
+    formed: &Formed<'_, 'a>,
+    classes: &C,
+    from: u16,
+    choices: &[Choice<'a>],
+) -> Walk {
+    if formed.class().methods.len() != 1 {
+        return Err(0);
+    }
+    let start = state_at(alloc, from);
+    match walk_verified(alloc, formed, 0, classes, &start, choices) {
+        Ok(walked) => Ok((walked.taken, stop_of(&walked.last))),
+        Err(fault) => Err(fault.number()),
+    }
+}
+
 /// The walk of the class's one method, where there are `java/lang/Object` and the class.
 pub fn walk_in<'a>(
     alloc: Global,
@@ -85,27 +114,13 @@ pub fn walk_in<'a>(
     };
     own.is_final = !asked.listed;
     let list = [object(alloc), own];
-    let Ok(classes) = Rows::new(alloc, &list, hasher()) else {
-        return Err(OUT_OF_MEMORY);
-    };
-    if formed.class().methods.len() != 1 {
-        return Err(0);
-    }
-    if !asked.verified {
-        let method = machine_method(alloc, formed)?;
-        return walk_from(
-            alloc,
-            &method,
-            &[],
-            &BTreeMap::new(alloc),
-            choices,
-            &classes,
-        );
-    }
-    let start = state_at(alloc, asked.from);
-    match walk_verified(alloc, formed, 0, &classes, &start, choices) {
-        Ok(walked) => Ok((walked.taken, stop_of(&walked.last))),
-        Err(fault) => Err(fault.number()),
+    match Rows::new(alloc, &list, hasher()) {
+        Ok(classes) => if asked.verified {
+            walk_by_verdict(alloc, formed, &classes, asked.from, choices)
+        } else {
+            walk_unasked(alloc, formed, &classes, choices)
+        },
+        Err(_) => Err(OUT_OF_MEMORY),
     }
 }
 
@@ -139,6 +154,44 @@ fn walk_of_a_verified_method(rt: HostRuntime) {
     assert!(rt; goes(rt.alloc(), &K, RIGHT) == Ok((1, Stop::Ended)));
 }
 
+/// A walk from a state in which the method does not begin.
+const AFTER_START: Asked = Asked {
+    from: 1,
+    listed: true,
+    verified: true,
+};
+
+const UNLISTED: Asked = Asked {
+    from: 0,
+    listed: false,
+    verified: true,
+};
+
+const UNLISTED_AFTER_START: Asked = Asked {
+    from: 1,
+    listed: false,
+    verified: true,
+};
+
+fn are_refused(alloc: Global, bytes: &[u8], rows: &[(Asked, u8)]) -> bool {
+    for (asked, number) in rows {
+        if goes(alloc, bytes, *asked) != Err(*number) {
+            return false;
+        }
+    }
+    true
+}
+
+/// Walks of K, and the numbers by which they are refused.
+const OF_K: [(Asked, u8); 3] = [
+    (AFTER_START, 55),
+    (UNLISTED_AFTER_START, 55),
+    (UNLISTED, 80),
+];
+
+/// Walks of K with another method, which is refused.
+const OF_BROKEN: [(Asked, u8); 3] = [(AFTER_START, 55), (RIGHT, 56), (UNLISTED, 80)];
+
 /// The least number that holds is the answer: 55 for a state in which the method does not begin, also if it is refused
 /// or its class is not listed; 56 for a method that is refused; 80 for a class that is not listed.
 #[test]
@@ -146,27 +199,9 @@ fn walks_that_are_refused(rt: HostRuntime) {
     let alloc = rt.alloc();
     let mut broken = K;
     broken[90] = 0;
-    let behind = Asked { from: 1, ..RIGHT };
-    let unlisted = Asked {
-        listed: false,
-        ..RIGHT
-    };
-    assert!(rt; goes(alloc, &K, behind) == Err(55));
-    assert!(rt; goes(alloc, &broken, behind) == Err(55));
-    assert!(rt;
-        goes(
-            alloc,
-            &K,
-            Asked {
-                listed: false,
-                ..behind
-            }
-        ) == Err(55)
-    );
-    assert!(rt; goes(alloc, &NATIVE, RIGHT) == Err(55));
-    assert!(rt; goes(alloc, &broken, RIGHT) == Err(56));
-    assert!(rt; goes(alloc, &K, unlisted) == Err(80));
-    assert!(rt; goes(alloc, &broken, unlisted) == Err(80));
+    assert!(rt; are_refused(alloc, &K, &OF_K));
+    assert!(rt; are_refused(alloc, &broken, &OF_BROKEN));
+    assert!(rt; are_refused(alloc, &NATIVE, &[(RIGHT, 55)]));
     assert!(rt; WalkFault::OutOfMemory.number() == OUT_OF_MEMORY);
 }
 

@@ -115,20 +115,30 @@ fn begins(alloc: Global, class: u8, arg: Value, there: (&'static [u8], Status)) 
     walk_of(alloc, &taking(class), &[arg], &heap, &[])
 }
 
-/// A method begins with null and with each object of its parameter's type that is ready; of an interface each object is
-/// one. It begins with no object that is yet to be initialized.
+const READY: (&[u8], Status) = (b"A", Status::Ready);
+
+const MADE: (&[u8], Status) = (b"A", Status::Made);
+
+const OTHER: (&[u8], Status) = (THROWABLE, Status::Ready);
+
+const BEGUN: Walk = Ok((0, Stop::At(0, None)));
+
+/// The class of the parameter, the argument, the object that there is, and the walk. A method begins with null and with
+/// each object of its parameter's type that is ready; of an interface each object is one. It begins with no object that
+/// is yet to be initialized.
+const ARGUMENTS: [(u8, Value, (&[u8], Status), Walk); 5] = [
+    (b'A', Value::Null, READY, BEGUN),
+    (b'A', Value::Ref(0), READY, BEGUN),
+    (b'A', Value::Ref(0), OTHER, Err(55)),
+    (b'A', Value::Ref(0), MADE, Err(55)),
+    (b'I', Value::Ref(0), OTHER, BEGUN),
+];
+
 #[test]
 fn beginnings_with_an_argument(rt: HostRuntime) {
-    let alloc = rt.alloc();
-    let begun = Ok((0, Stop::At(0, None)));
-    let of_a = (b"A".as_slice(), Status::Ready);
-    let other = (THROWABLE, Status::Ready);
-    let made = (b"A".as_slice(), Status::Made);
-    assert!(rt; begins(alloc, b'A', Value::Null, of_a) == begun);
-    assert!(rt; begins(alloc, b'A', Value::Ref(0), of_a) == begun);
-    assert!(rt; begins(alloc, b'A', Value::Ref(0), other) == Err(55));
-    assert!(rt; begins(alloc, b'A', Value::Ref(0), made) == Err(55));
-    assert!(rt; begins(alloc, b'I', Value::Ref(0), other) == begun);
+    for (class, argument, there, walked) in &ARGUMENTS {
+        assert!(rt; begins(rt.alloc(), *class, *argument, *there) == *walked);
+    }
 }
 
 /// So many arrays of `int`, at the first addresses.

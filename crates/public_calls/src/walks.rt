@@ -1,11 +1,12 @@
 //! Walks of the machine, from states in which a method begins.
 use crate::machine_steps::{go, machine_method};
-use classfile::{Formed, decode, form_check};
+use classfile::{CodeMethod, Formed, decode, form_check};
 use format_calls::making::{CATCHING, K, OUT_OF_MEMORY, catching};
 use hierarchy::{Classes, Rows, Summary};
 use lower_calls::making::{hasher, object, summary};
 use machine::{
-    Choice, Last, Method, Object, RunType, StepFault, Value, Walked, initial, is_initial, walk,
+    Choice, Last, Method, Object, RunType, State, StepFault, Value, Walked, initial, is_initial,
+    walk,
 };
 use names::{OBJECT, THROWABLE};
 use std::alloc::{AllocError, Global};
@@ -180,23 +181,48 @@ fn goes(alloc: Global, bytes: &[u8], count: usize) -> Walk {
 }
 
 /// `return` ends the method; choices after that are not looked at, and without a choice nothing is done.
-#[test]
-fn walks_that_end(rt: HostRuntime) {
-    let alloc = rt.alloc();
-    assert!(rt; goes(alloc, &K, 0) == Ok((0, Stop::At(0, None))));
-    assert!(rt; goes(alloc, &K, 1) == Ok((1, Stop::Ended)));
-    assert!(rt; goes(alloc, &K, 2) == Ok((1, Stop::Ended)));
-    let two = catching([0x04, 0xB1]);
-    assert!(rt; goes(alloc, &two, 1) == Ok((1, Stop::At(1, Some(Value::Int)))));
-    assert!(rt; goes(alloc, &two, 2) == Ok((2, Stop::Ended)));
+const OF_K: [(usize, Walk); 3] = [
+    (0, Ok((0, Stop::At(0, None)))),
+    (1, Ok((1, Stop::Ended))),
+    (2, Ok((1, Stop::Ended))),
+];
+
+/// Two bytes of code, how many choices there are to go on, and the walk.
+type Row = ([u8; 2], usize, Walk);
+
+const ENDING: [Row; 2] = [
+    ([0x04, 0xB1], 1, Ok((1, Stop::At(1, Some(Value::Int))))),
+    ([0x04, 0xB1], 2, Ok((2, Stop::Ended))),
+];
+
+fn are_walked(alloc: Global, rows: &[Row]) -> bool {
+    for (code, count, walked) in rows {
+        if goes(alloc, &catching(*code), *count) != *walked {
+            return false;
+        }
+    }
+    true
 }
 
-/// `pop` of nothing is a fault, after `nop` too; where a choice is none, it is not counted.
+#[test]
+fn walks_that_end(rt: HostRuntime) {
+    for (count, walked) in &OF_K {
+        assert!(rt; goes(rt.alloc(), &K, *count) == *walked);
+    }
+    assert!(rt; are_walked(rt.alloc(), &ENDING));
+}
+
+/// `pop` of nothing is a fault, after `nop` too.
+const FAULTY: [Row; 2] = [
+    ([0x57, 0xB1], 1, Ok((0, Stop::Fault))),
+    ([0x00, 0x57], 2, Ok((1, Stop::Fault))),
+];
+
+/// Where a choice is none, it is not counted.
 #[test]
 fn walks_that_stop(rt: HostRuntime) {
     let alloc = rt.alloc();
-    assert!(rt; goes(alloc, &catching([0x57, 0xB1]), 1) == Ok((0, Stop::Fault)));
-    assert!(rt; goes(alloc, &catching([0x00, 0x57]), 2) == Ok((1, Stop::Fault)));
+    assert!(rt; are_walked(alloc, &FAULTY));
     assert!(rt; goes_by(alloc, &K, raise(alloc, None, None)) == Ok((0, Stop::NotAChoice)));
 }
 
@@ -223,28 +249,46 @@ fn beginnings_that_are_none(rt: HostRuntime) {
     assert!(rt; begun == Err(55));
 }
 
-/// Whether the one method of the class begins in the state that `initial` returns, and not one step further.
-fn begins_in<'a>(alloc: Global, formed: &Formed<'_, 'a>) -> Result<bool, u8> {
-    let list = [object(alloc), summary(alloc, b"K", Some(OBJECT), false)];
-    let Ok(classes) = Rows::new(alloc, &list, hasher()) else {
-        return Err(OUT_OF_MEMORY);
-    };
-    if formed.class().methods.len() != 1 {
-        return Err(0);
-    }
-    let method = machine_method(alloc, formed)?;
-    let Ok(mut state) = initial(alloc, &method, &[], &BTreeMap::new(alloc), &classes) else {
-        return Err(OUT_OF_MEMORY);
-    };
-    let Some(declared) = formed.method(0) else {
-        return Err(0);
-    };
-    let Ok(first) = is_initial(alloc, &declared, &state, &classes) else {
+/// Whether a method begins in this state, and not one step further.
+fn begins_there<'a, C: Classes>(
+    alloc: Global,
+    method: &CodeMethod<'_, 'a>,
+    mut state: State<'a>,
+    classes: &C,
+) -> Result<bool, u8> {
+    let Ok(first) = is_initial(alloc, method, &state, classes) else {
         return Err(OUT_OF_MEMORY);
     };
     state.at = 1;
-    match is_initial(alloc, &declared, &state, &classes) {
+    match is_initial(alloc, method, &state, classes) {
         Ok(second) => Ok(first && !second),
+        Err(_) => Err(OUT_OF_MEMORY),
+    }
+}
+
+/// Whether the one method of the class begins in the state that `initial` returns, and not one step further.
+fn begins_among<'a, C: Classes>(
+    alloc: Global,
+    formed: &Formed<'_, 'a>,
+    classes: &C,
+) -> Result<bool, u8> {
+    if formed.class().methods.len() != 1 {
+        return Err(0);
+    }
+    let Some(declared) = formed.method(0) else {
+        return Err(0);
+    };
+    let method = machine_method(alloc, formed)?;
+    match initial(alloc, &method, &[], &BTreeMap::new(alloc), classes) {
+        Ok(state) => begins_there(alloc, &declared, state, classes),
+        Err(_) => Err(OUT_OF_MEMORY),
+    }
+}
+
+fn begins_in<'a>(alloc: Global, formed: &Formed<'_, 'a>) -> Result<bool, u8> {
+    let list = [object(alloc), summary(alloc, b"K", Some(OBJECT), false)];
+    match Rows::new(alloc, &list, hasher()) {
+        Ok(classes) => begins_among(alloc, formed, &classes),
         Err(_) => Err(OUT_OF_MEMORY),
     }
 }
