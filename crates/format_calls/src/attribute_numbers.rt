@@ -124,46 +124,42 @@ fn raw<'a>(body: &'a [u8]) -> ClassAttribute<'a> {
     ClassAttribute::Raw { name: 8, body }
 }
 
-/// Whether K of this version, with this text at 8, is written with one more attribute, which is that text's; nothing
-/// where memory runs out.
-fn is_written_in(
-    alloc: Global,
-    major: u8,
-    text: &[u8],
-    attribute: ClassAttribute<'_>,
-) -> Option<bool> {
-    let bytes = with_text(alloc, major, text).ok()?;
-    is_written(alloc, &bytes, attribute)
-}
-
 /// An attribute of numbers is written under its name, from its version on, with as many numbers as it has.
 #[test]
 fn numbers_are_written(rt: HostRuntime) {
-    let (alloc, host) = (rt.alloc(), b"NestHost".as_slice());
-    assert!(rt; is_written_in(alloc, 55, host, numbers(&NEST_HOST, &[0, 1])) == Some(true));
-    assert!(rt; is_written_in(alloc, 55, host, numbers(&NEST_HOST, &[1])) == Some(false));
-    assert!(rt; is_written_in(alloc, 55, host, numbers(&DEPRECATED, &[])) == Some(false));
-    assert!(rt; is_written_in(alloc, 54, host, numbers(&NEST_HOST, &[0, 1])) == Some(false));
-    assert!(rt; is_written_in(alloc, 55, b"NestHos", numbers(&NEST_HOST, &[0, 1])) == Some(false));
+    let alloc = rt.alloc();
+    let host = with_text(alloc, 55, b"NestHost").expect(&rt, "memory");
+    assert!(rt; is_written(alloc, &host, numbers(&NEST_HOST, &[0, 1])) == Some(true));
+    assert!(rt; is_written(alloc, &host, numbers(&NEST_HOST, &[1])) == Some(false));
+    assert!(rt; is_written(alloc, &host, numbers(&DEPRECATED, &[])) == Some(false));
 }
 
-/// Versions, texts, bytes, and whether these are written as they are under that name: nothing else than numbers is
-/// where it is the name of an attribute of numbers.
-const RAW: [(u8, &[u8], &[u8], bool); 3] = [
-    (55, b"NestHost", &[0, 1], false),
-    (54, b"NestHost", &[0, 1], true),
-    (52, b"Exceptions", &[0, 0], true),
-];
+/// In an older version, or under another name, it is not.
+#[test]
+fn numbers_are_not_written(rt: HostRuntime) {
+    let alloc = rt.alloc();
+    let older = with_text(alloc, 54, b"NestHost").expect(&rt, "memory");
+    assert!(rt; is_written(alloc, &older, numbers(&NEST_HOST, &[0, 1])) == Some(false));
+    let other = with_text(alloc, 55, b"NestHos").expect(&rt, "memory");
+    assert!(rt; is_written(alloc, &other, numbers(&NEST_HOST, &[0, 1])) == Some(false));
+}
 
+/// Under the name of an attribute of numbers nothing else is written.
 #[test]
 fn raw_bytes_under_such_a_name(rt: HostRuntime) {
-    for (major, text, body, expected) in &RAW {
-        assert!(rt; is_written_in(rt.alloc(), *major, *text, raw(*body)) == Some(*expected));
-    }
+    let alloc = rt.alloc();
+    let host = with_text(alloc, 55, b"NestHost").expect(&rt, "memory");
+    assert!(rt; is_written(alloc, &host, raw(&[0, 1])) == Some(false));
+    let older = with_text(alloc, 54, b"NestHost").expect(&rt, "memory");
+    assert!(rt; is_written(alloc, &older, raw(&[0, 1])) == Some(true));
+    let elsewhere = with_text(alloc, 52, b"Exceptions").expect(&rt, "memory");
+    assert!(rt; is_written(alloc, &elsewhere, raw(&[0, 0])) == Some(true));
 }
 
-/// Puts an Exceptions with the thrown class at 1 into the first method of a class; nothing where memory runs out.
-fn throw(class: &mut ClassFile<'_>) -> Option<()> {
+/// K with the thrown class at 1 in the Exceptions of its method, as bytes.
+fn throwing(alloc: Global) -> Option<Vec<u8>> {
+    let bytes = with_text(alloc, 52, b"Exceptions").ok()?;
+    let mut class = decode(alloc, &bytes).ok()?;
     let attribute = Attribute::Numbers {
         name: 8,
         numbers: Numbers {
@@ -171,14 +167,7 @@ fn throw(class: &mut ClassFile<'_>) -> Option<()> {
             body: &[0, 1, 0, 1],
         },
     };
-    class.methods.first_mut()?.attributes.push(attribute).ok()
-}
-
-/// K with the thrown class at 1 in the Exceptions of its method, as bytes.
-fn throwing(alloc: Global) -> Option<Vec<u8>> {
-    let bytes = with_text(alloc, 52, b"Exceptions").ok()?;
-    let mut class = decode(alloc, &bytes).ok()?;
-    throw(&mut class)?;
+    class.methods.first_mut()?.attributes.push(attribute).ok()?;
     encode(alloc, &class).ok()
 }
 
