@@ -72,7 +72,7 @@ fn declaring<'a>(
 }
 
 /// The summaries of `java/lang/Object` and of those classes.
-fn summaries<'a>(alloc: Global) -> Result<Vec<Summary<'a>>, AllocError> {
+fn summaries(alloc: Global) -> Result<Vec<Summary<'static>>, AllocError> {
     let mut list = Vec::new(alloc);
     list.push(object(alloc))?;
     for (name, superclass, members) in &CLASSES {
