@@ -1,4 +1,4 @@
-"""What the scripts of `run/` end with: what was got is compared with what is wanted."""
+"""The end of the scripts of `run/`: compares what was got with what is wanted."""
 import pathlib
 import tempfile
 
