@@ -6,8 +6,7 @@ use Rattle.names.specs.ReferenceTypes.{ReferenceType, class_type, array_type}
 use Rattle.classfile.specs.Methods.{Method}
 use Rattle.names.specs.StandardNames.{object_name, cloneable_name, serializable_name}
 use Rattle.hierarchy.specs.World.{Entry, World}
-use Rattle.hierarchy.specs.Class.{ClassFact, entry_of, world_of, IsAbsent}
-use Rattle.hierarchy.specs.Rules.{IsHierarchy}
+use Rattle.hierarchy.specs.Class.{ClassFact, entry_of, world_of}
 use Rattle.hierarchy.specs.Extends.{Extends}
 use Rattle.hierarchy.proofs.Worlds.{itself}
 use Rattle.insn.specs.Meanings.{Act}
@@ -21,7 +20,7 @@ use Rattle.machine.specs.Demands.{State, AllMeet, IsMade, IsOwn, MeetsRest, IsNo
 use Rattle.machine.specs.Steps.{Replies, IsNull, moved_with, IsLive, IsLast, Does, IsBranch}
 use Rattle.machine.specs.ByType.{kind_of, IsOf}
 use Rattle.machine.specs.ByAct.{jumps, asks}
-use Rattle.machine.specs.Breadth.{AreNew, IsNotNull, Passes, with_new, MayGoOn, IsElement, IsAnswer, MakesNone, IsWay, IsTold, HasStep, HasChoices, StepBreadth, with_class, interface_entry, class_entry, WorldBreadth}
+use Rattle.machine.specs.Breadth.{AreNew, IsNotNull, Passes, with_new, MayGoOn, IsElement, IsAnswer, MakesNone, IsWay, IsTold, HasStep, HasChoices, StepBreadth, with_class, interface_entry, class_entry, HasMore, WorldBreadth}
 use Rattle.machine.proofs.ByType.{fits_where, reference_where}
 use Rattle.machine.proofs.Flows.{Flows, flows}
 use Rattle.machine.proofs.Outlook.{Outlook, outlook, outlook_of, leaves_it, asks_in, reply_asks, seen}
@@ -297,29 +296,26 @@ step_breadth w m s n act here fresh f = choices w m s fresh (fresh_where s.heap 
 some_same : (a b : Entry) → Some a ≡ Some b → a ≡ b
 some_same a b e = cc
 
-module _ (classes : List ClassFact) (h : IsHierarchy classes) (name : List ℕ) (absent : IsAbsent classes name) where
-  old : Extends (world_of classes) classes
-  old = itself classes h
+module _ (classes : List ClassFact) (world : World) (old : Extends world classes) (name : List ℕ) (absent : world name ≡ None) where
+  not_there : (e : Entry) → world name ≡ Some e → ⊥
+  not_there e k = let r : None ≡ Some e = sym absent ∙ k in cc
 
-  not_there : (e : Entry) → world_of classes name ≡ Some e → ⊥
-  not_there e k = let q : world_of classes name ≡ None = ap (option_map entry_of) absent in let r : None ≡ Some e = sym q ∙ k in cc
-
-  keeps_classes : (new : Entry) (n : List ℕ) (e : Entry) → world_of classes n ≡ Some e → with_class (world_of classes) name new n ≡ Some e
+  keeps_classes : (new : Entry) (n : List ℕ) (e : Entry) → world_of classes n ≡ Some e → with_class world name new n ≡ Some e
   keeps_classes new n e k = by (bytes_eq n name) refl
     where
-      by : (b : Bool) → bytes_eq n name ≡ b → (if b then Some new else world_of classes n) ≡ Some e
-      by true q = absurd (not_there e (subst (λ z. world_of classes z ≡ Some e) ((bytes_eq-Decides n name).0 q) k))
-      by false q = k
+      by : (b : Bool) → bytes_eq n name ≡ b → (if b then Some new else world n) ≡ Some e
+      by true q = absurd (not_there e (subst (λ z. world z ≡ Some e) ((bytes_eq-Decides n name).0 q) (old.keeps n e k)))
+      by false q = old.keeps n e k
 
   -- what holds of the new class and of the others holds of all
-  each : (new : Entry) (n : List ℕ) (P : Entry → Type 0) → (n ≡ name → P new) → ((e : Entry) → world_of classes n ≡ Some e → P e) → (e : Entry) → with_class (world_of classes) name new n ≡ Some e → P e
+  each : (new : Entry) (n : List ℕ) (P : Entry → Type 0) → (n ≡ name → P new) → ((e : Entry) → world n ≡ Some e → P e) → (e : Entry) → with_class world name new n ≡ Some e → P e
   each new n P p q e k = by (bytes_eq n name) refl k
     where
-      by : (b : Bool) → bytes_eq n name ≡ b → (if b then Some new else world_of classes n) ≡ Some e → P e
+      by : (b : Bool) → bytes_eq n name ≡ b → (if b then Some new else world n) ≡ Some e → P e
       by true i j = subst P (some_same new e j) (p ((bytes_eq-Decides n name).0 i))
       by false i j = q e j
 
-  with_interface : Extends (with_class (world_of classes) name interface_entry) classes
+  with_interface : Extends (with_class world name interface_entry) classes
   with_interface = record {
     keeps = keeps_classes interface_entry;
     interface_super = λ n e k i. each interface_entry n (λ x. x.interface ≡ true → x.superclass ≡ Some object_name) (λ q j. refl) (λ x l j. old.interface_super n x l j) e k i;
@@ -327,7 +323,7 @@ module _ (classes : List ClassFact) (h : IsHierarchy classes) (name : List ℕ) 
     serializable = λ e k. each interface_entry serializable_name (λ x. x.interface ≡ true) (λ q. refl) old.serializable e k;
   }
 
-  with_more : name ≢ cloneable_name → name ≢ serializable_name → (superclass : Option (List ℕ)) → Extends (with_class (world_of classes) name (class_entry superclass)) classes
+  with_more : name ≢ cloneable_name → name ≢ serializable_name → (superclass : Option (List ℕ)) → Extends (with_class world name (class_entry superclass)) classes
   with_more c d superclass = record {
     keeps = keeps_classes (class_entry superclass);
     interface_super = λ n e k i. each (class_entry superclass) n (λ x. x.interface ≡ true → x.superclass ≡ Some object_name) (λ q j. absurd (true_false (sym j))) (λ x l j. old.interface_super n x l j) e k i;
@@ -335,9 +331,18 @@ module _ (classes : List ClassFact) (h : IsHierarchy classes) (name : List ℕ) 
     serializable = λ e k. each (class_entry superclass) serializable_name (λ x. x.interface ≡ true) (λ q. absurd (d (sym q))) old.serializable e k;
   }
 
-pub world_breadth : WorldBreadth
-world_breadth classes h = record {
-  itself = itself classes h;
-  interfaces = λ name absent. with_interface classes h name absent;
-  more_classes = λ name absent c d superclass. with_more classes h name absent c d superclass;
+has_more : (classes : List ClassFact) (world : World) → Extends world classes → HasMore classes world
+has_more classes world old = record {
+  interfaces = λ name absent. with_interface classes world old name absent;
+  more_classes = λ name absent c d superclass. with_more classes world old name absent c d superclass;
 }
+
+pub world_breadth : WorldBreadth
+world_breadth classes h =
+    let alone = has_more classes (world_of classes) (itself classes h) in
+    record {
+      itself = itself classes h;
+      interfaces = λ name absent. alone.interfaces name (ap (option_map entry_of) absent);
+      more_classes = λ name absent c d superclass. alone.more_classes name (ap (option_map entry_of) absent) c d superclass;
+      more = has_more classes;
+    }

@@ -210,13 +210,22 @@ interface_entry = record { superclass = Some object_name; interface = true }
 abbrev pub class_entry : Option (List ℕ) → Entry
 class_entry superclass = record { superclass = superclass; interface = false }
 
--- A hierarchy extends itself; so does it with one more interface, and with one more class under any superclass or none.
+-- With one more class a world still extends the hierarchy: a name that it lacks is an interface, or a class under any
+-- superclass or none.
+pub record HasMore (classes : List ClassFact) (world : World) : Type 0 where
+  pub interfaces : (name : List ℕ) → world name ≡ None → Extends (with_class world name interface_entry) classes
+  pub more_classes : (name : List ℕ) → world name ≡ None → name ≢ cloneable_name → name ≢ serializable_name
+      → (superclass : Option (List ℕ)) → Extends (with_class world name (class_entry superclass)) classes
+
+-- A hierarchy extends itself; so does it with one more interface, and with one more class under any superclass or none;
+-- and so does each world that extends it, with one more class.
 pub record HasWorlds (classes : List ClassFact) : Type 0 where
   pub itself : Extends (world_of classes) classes
   pub interfaces : (name : List ℕ) → IsAbsent classes name
       → Extends (with_class (world_of classes) name interface_entry) classes
   pub more_classes : (name : List ℕ) → IsAbsent classes name → name ≢ cloneable_name → name ≢ serializable_name
       → (superclass : Option (List ℕ)) → Extends (with_class (world_of classes) name (class_entry superclass)) classes
+  pub more : (world : World) → Extends world classes → HasMore classes world
 
 abbrev pub WorldBreadth : Type 0
 WorldBreadth = (classes : List ClassFact) → IsHierarchy classes → HasWorlds classes

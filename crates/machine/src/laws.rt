@@ -42,7 +42,8 @@ pub fn run_breadth()
     ensures { RunBreadth }
 {}
 
-/// A hierarchy extends itself, alone, with one more interface, and with one more class under any superclass or none.
+/// A hierarchy extends itself, alone, with one more interface, and with one more class under any superclass or none; and
+/// each world that extends it still does with one more class, so there are worlds with any number of them.
 pub fn world_breadth()
     ensures { WorldBreadth }
 {}
