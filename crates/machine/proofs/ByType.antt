@@ -52,7 +52,7 @@ reference_where w h (array_type c) v e = fits_where w h (array c) v e
 
 -- ---- and the other way
 
-number_of : (p : Primitive) (v : Value) → v ≡ number (computed_as p) → (w : World) (h : Heap) → IsOf w h (primitive p) v
+pub number_of : (p : Primitive) (v : Value) → v ≡ number (computed_as p) → (w : World) (h : Heap) → IsOf w h (primitive p) v
 number_of p (number k) e w h = (p, refl, ap (kind_in k) e ∙ sym (computed_so p))
 number_of p null e w h = cc
 number_of p (reference a) e w h = cc

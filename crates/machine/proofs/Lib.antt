@@ -9,6 +9,8 @@ mod ReadBack
 mod Leading
 mod Uses
 mod Pushes
+mod OperandTypes
+mod StackRoom
 mod Bounds
 mod Types
 mod Stacks

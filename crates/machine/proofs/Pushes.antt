@@ -131,7 +131,7 @@ chosen_moved Dup2X2 items ns ms = chosen_on items ns (ms ++ ns) ∙ ap (λ z. ch
 
 -- ---- instructions for the stack
 
-are_moved : (op : StackOperator) (f : StackForm) (top passed : List StackPlace) (vs us : List Value) → IsFormFor op f top passed
+pub are_moved : (op : StackOperator) (f : StackForm) (top passed : List StackPlace) (vs us : List Value) → IsFormFor op f top passed
     → AreForm f.takes vs → us ≡ rearranged f vs → AreMoved op vs us
 are_moved op f top passed vs us k fits e =
     let a = split top passed vs (subst (λ z. AreForm z vs) k.takes fits) in

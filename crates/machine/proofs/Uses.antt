@@ -49,7 +49,7 @@ ready_used h (effects.own_or_of c) a r e = elim r [ ]
 
 -- ---- by place
 
-met_at : (w : World) (h : Heap) (ns : List Demand) (vs : List Value) (i : ℕ) (n : Demand) → AllMeet w h ns vs → slice_get ns i ≡ Some n
+pub met_at : (w : World) (h : Heap) (ns : List Demand) (vs : List Value) (i : ℕ) (n : Demand) → AllMeet w h ns vs → slice_get ns i ≡ Some n
     → (v : Value) × (slice_get vs i ≡ Some v) × Meets w h n v
 met_at w h [] vs i n m e = cc
 met_at w h (k ∷ ns) [] i n m e = elim m [ ]
@@ -98,7 +98,7 @@ both_wanted (p ∷ places) others ns x y =
 -- ---- arguments
 
 -- what stands beneath the arguments
-beneath_them : (ts : List FieldDescriptor) (ns : List Demand) (k : ℕ) → slice_get (effects.arguments_on ts ns) (length ts + k) ≡ slice_get ns k
+pub beneath_them : (ts : List FieldDescriptor) (ns : List Demand) (k : ℕ) → slice_get (effects.arguments_on ts ns) (length ts + k) ≡ slice_get ns k
 beneath_them [] ns k = ap (slice_get ns) (omega arith)
 beneath_them (t ∷ ts) ns k =
     let at : suc (length ts) + k ≡ length ts + suc k = omega arith in
@@ -225,7 +225,7 @@ set_wanted : (m : Method Act) (act : Act) (f : FieldConstant) → field_set m ac
 set_wanted m (acts.PutField i) f e = ap (λ c. slice_get (demands_of (effects.put_field m c)) 1) e
 set_wanted m _ f e = cc
 
-both_true : (b c : Bool) → (b && c) ≡ true → (b ≡ true) × (c ≡ true)
+pub both_true : (b c : Bool) → (b && c) ≡ true → (b ≡ true) × (c ≡ true)
 both_true true true e = (refl, refl)
 both_true true false e = cc
 both_true false c e = cc

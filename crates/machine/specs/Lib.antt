@@ -11,6 +11,7 @@ pub mod Breadth
 pub mod RunBreadth
 pub mod Uses
 pub mod Pushes
+pub mod OperandTypes
 pub mod Views
 pub mod Bodies
 pub mod Stepped

@@ -3,6 +3,7 @@ ghost use Rattle.machine.specs.Breadth.{StepBreadth, StepBounds, WorldBreadth};
 ghost use Rattle.machine.specs.Pushes.{StackBounds};
 ghost use Rattle.machine.specs.RunBreadth.{StartBreadth, RunBreadth};
 ghost use Rattle.machine.specs.Uses.{ObjectsAreInitialized, OperandsAreInitialized};
+ghost use Rattle.machine.specs.OperandTypes.{OperandsAreTyped, OwnObjectIsDone, StackIsWithin};
 
 /// At a state that is not a fault an instruction goes each way with each answer of its type, and each Throwable may be
 /// raised, whatever objects come into being meanwhile.
@@ -29,6 +30,16 @@ pub fn stack_bounds()
 pub fn used_is_initialized()
     ensures operands { OperandsAreInitialized }
     ensures objects { ObjectsAreInitialized }
+{}
+
+/// At a state that is no fault each operand, each local variable that is read, the receiver of a constructor and a result
+/// are of the types that the instruction and its constant ask for, and there are as many as they ask for. The stack is
+/// within max_stack, and after a step too. An instance initialization method returns only if its own object is
+/// initialized. Each part of the demands says so alone.
+pub fn operands_are_typed()
+    ensures operands { OperandsAreTyped }
+    ensures stack { StackIsWithin }
+    ensures own_object { OwnObjectIsDone }
 {}
 
 /// A method begins with every heap, every receiver that it may have, and all arguments of its types; each stands in the
