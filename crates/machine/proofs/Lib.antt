@@ -10,6 +10,7 @@ mod Leading
 mod Uses
 mod Pushes
 mod OperandTypes
+mod NamedConstants
 mod StackRoom
 mod Bounds
 mod Types

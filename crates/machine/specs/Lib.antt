@@ -12,6 +12,7 @@ pub mod RunBreadth
 pub mod Uses
 pub mod Pushes
 pub mod OperandTypes
+pub mod NamedConstants
 pub mod Views
 pub mod Bodies
 pub mod Stepped

@@ -4,6 +4,7 @@ ghost use Rattle.machine.specs.Pushes.{StackBounds};
 ghost use Rattle.machine.specs.RunBreadth.{StartBreadth, RunBreadth};
 ghost use Rattle.machine.specs.Uses.{ObjectsAreInitialized, OperandsAreInitialized};
 ghost use Rattle.machine.specs.OperandTypes.{OperandsAreTyped, OwnObjectIsDone, StackIsWithin};
+ghost use Rattle.machine.specs.NamedConstants.{ConstantsAreNamed};
 
 /// At a state that is not a fault an instruction goes each way with each answer of its type, and each Throwable may be
 /// raised, whatever objects come into being meanwhile.
@@ -40,6 +41,12 @@ pub fn operands_are_typed()
     ensures operands { OperandsAreTyped }
     ensures stack { StackIsWithin }
     ensures own_object { OwnObjectIsDone }
+{}
+
+/// At a state that is no fault the constant that an instruction names is there, and of the kind that the instruction asks
+/// for.
+pub fn constants_are_named()
+    ensures { ConstantsAreNamed }
 {}
 
 /// A method begins with every heap, every receiver that it may have, and all arguments of its types; each stands in the
