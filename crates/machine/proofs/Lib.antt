@@ -11,6 +11,7 @@ mod Uses
 mod Pushes
 mod OperandTypes
 mod NamedConstants
+mod Stores
 mod StackRoom
 mod Bounds
 mod Types

@@ -13,6 +13,7 @@ pub mod Uses
 pub mod Pushes
 pub mod OperandTypes
 pub mod NamedConstants
+pub mod Stores
 pub mod Views
 pub mod Bodies
 pub mod Stepped

@@ -5,6 +5,7 @@ ghost use Rattle.machine.specs.RunBreadth.{StartBreadth, RunBreadth};
 ghost use Rattle.machine.specs.Uses.{ObjectsAreInitialized, OperandsAreInitialized};
 ghost use Rattle.machine.specs.OperandTypes.{OperandsAreTyped, OwnObjectIsDone, StackIsWithin};
 ghost use Rattle.machine.specs.NamedConstants.{ConstantsAreNamed};
+ghost use Rattle.machine.specs.Stores.{StoresAreWritten};
 
 /// At a state that is not a fault an instruction goes each way with each answer of its type, and each Throwable may be
 /// raised, whatever objects come into being meanwhile.
@@ -47,6 +48,12 @@ pub fn operands_are_typed()
 /// for.
 pub fn constants_are_named()
     ensures { ConstantsAreNamed }
+{}
+
+/// A store writes the value on top of the stack; a long or double has its second half after it. The other half of a long
+/// or double that is overwritten in part is empty, and all other local variables stay.
+pub fn stores_are_written()
+    ensures { StoresAreWritten }
 {}
 
 /// A method begins with every heap, every receiver that it may have, and all arguments of its types; each stands in the
