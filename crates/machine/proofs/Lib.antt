@@ -13,6 +13,7 @@ mod OperandTypes
 mod NamedConstants
 mod Stores
 mod StackRoom
+mod Below
 mod Bounds
 mod Types
 mod Stacks

@@ -14,6 +14,7 @@ pub mod Pushes
 pub mod OperandTypes
 pub mod NamedConstants
 pub mod Stores
+pub mod Below
 pub mod Views
 pub mod Bodies
 pub mod Stepped

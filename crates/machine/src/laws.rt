@@ -6,6 +6,7 @@ ghost use Rattle.machine.specs.Uses.{ObjectsAreInitialized, OperandsAreInitializ
 ghost use Rattle.machine.specs.OperandTypes.{OperandsAreTyped, OwnObjectIsDone, StackIsWithin};
 ghost use Rattle.machine.specs.NamedConstants.{ConstantsAreNamed};
 ghost use Rattle.machine.specs.Stores.{StoresAreWritten};
+ghost use Rattle.machine.specs.Below.{ArraysAreBelowThree, BelowIsByCases};
 
 /// At a state that is not a fault an instruction goes each way with each answer of its type, and each Throwable may be
 /// raised, whatever objects come into being meanwhile.
@@ -54,6 +55,13 @@ pub fn constants_are_named()
 /// or double that is overwritten in part is empty, and all other local variables stay.
 pub fn stores_are_written()
     ensures { StoresAreWritten }
+{}
+
+/// A run-time type is below a type exactly by the cases of the standard; so no array is below a class but Object,
+/// Cloneable and Serializable.
+pub fn below_is_by_cases()
+    ensures cases { BelowIsByCases }
+    ensures arrays { ArraysAreBelowThree }
 {}
 
 /// A method begins with every heap, every receiver that it may have, and all arguments of its types; each stands in the
