@@ -14,6 +14,7 @@ mod NamedConstants
 mod Stores
 mod StackRoom
 mod Below
+mod SharedWords
 mod Bounds
 mod Types
 mod Stacks

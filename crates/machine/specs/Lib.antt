@@ -15,6 +15,7 @@ pub mod OperandTypes
 pub mod NamedConstants
 pub mod Stores
 pub mod Below
+pub mod SharedWords
 pub mod Views
 pub mod Bodies
 pub mod Stepped

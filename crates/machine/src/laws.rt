@@ -7,6 +7,7 @@ ghost use Rattle.machine.specs.OperandTypes.{OperandsAreTyped, OwnObjectIsDone, 
 ghost use Rattle.machine.specs.NamedConstants.{ConstantsAreNamed};
 ghost use Rattle.machine.specs.Stores.{StoresAreWritten};
 ghost use Rattle.machine.specs.Below.{ArraysAreBelowThree, BelowIsByCases};
+ghost use Rattle.machine.specs.SharedWords.{ConstantsAreSaid, OwnFieldsAreSaid, RangesAreSaid, ReceiversAreSaid, TargetsAreSaid};
 
 /// At a state that is not a fault an instruction goes each way with each answer of its type, and each Throwable may be
 /// raised, whatever objects come into being meanwhile.
@@ -62,6 +63,21 @@ pub fn stores_are_written()
 pub fn below_is_by_cases()
     ensures cases { BelowIsByCases }
     ensures arrays { ArraysAreBelowThree }
+{}
+
+/// The words that rules, machine and laws share mean what the standard says: the receiver of a method by its flags, its
+/// name and its class, the offsets that an entry of an exception table covers, the fields that a class declares, and
+/// where offsets lead.
+pub fn shared_words_are_said()
+    ensures receivers { ReceiversAreSaid }
+    ensures ranges { RangesAreSaid }
+    ensures own_fields { OwnFieldsAreSaid }
+    ensures targets { TargetsAreSaid }
+{}
+
+/// A constant means a type, a field, a method, a computed value or a call site exactly if the texts at its indices do.
+pub fn constants_are_said()
+    ensures { ConstantsAreSaid }
 {}
 
 /// A method begins with every heap, every receiver that it may have, and all arguments of its types; each stands in the
