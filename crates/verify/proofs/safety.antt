@@ -19,5 +19,6 @@ pub mod ClassEnters
 pub mod ClassMethods
 pub mod ClassRuns
 pub mod ClassRunBreadth
+pub mod PlayableMethods
 pub mod FitsBreadth
 pub mod NewMaps

@@ -5,6 +5,7 @@ pub mod Safety
 pub mod ClassRuns
 pub mod ClassRunSafety
 pub mod ClassRunBreadth
+pub mod PlayableMethods
 pub mod Plays
 pub mod VerifiedWalks
 pub mod Together

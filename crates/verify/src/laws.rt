@@ -4,6 +4,7 @@ ghost use Rattle.verify.specs.Refusals.{MapRefusedWhere, RefusedWhere};
 ghost use Rattle.verify.specs.DetailLaws.{DetailsAreTold, MapDetailsAreTold};
 ghost use Rattle.verify.specs.FitsBreadth.{FitsBreadth};
 ghost use Rattle.verify.specs.ClassRunBreadth.{ClassRunBreadth};
+ghost use Rattle.verify.specs.PlayableMethods.{AllAreInPlay, PlayableIsSafe};
 ghost use Rattle.verify.specs.JudgedFrames.{FramesAreJudged};
 ghost use Rattle.verify.specs.OneVerdict.{OneVerdict, OneReport, OneFrames};
 ghost use Rattle.verify.specs.VerdictLaws.{TypeSafeIsVerified, VerifiedIsTypeSafe};
@@ -99,3 +100,10 @@ pub fn class_run_breadth()
 {
     step_breadth();
 }
+
+/// Each method with code of each class of the list is in play, by the texts of its name and its descriptor. If the
+/// classes are playable, each of these methods is safe by itself, in each part of the theorem.
+pub fn playable_methods_are_safe()
+    ensures in_play { AllAreInPlay }
+    ensures safe { PlayableIsSafe }
+{}

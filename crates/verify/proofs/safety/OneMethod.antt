@@ -21,7 +21,7 @@ one_method c number a b x y =
     let same : x.instructions ≡ y.instructions = one_code 0 x.body.code x.instructions y.instructions x.spelled code in
     some_same a b (sym x.method ∙ ap (λ z. method_of c number (acts z)) same ∙ y.method)
 
-in_all : (classes : List ClassFact) (m : Method Act) → IsSafe classes m → IsSafeInAll classes m
+pub in_all : (classes : List ClassFact) (m : Method Act) → IsSafe classes m → IsSafeInAll classes m
 in_all classes m safe = record {
   safe = safe;
   operands = λ w x run r s a. let n = safe w x run r s a in (n.act, n.here, n.operands);
