@@ -33,3 +33,4 @@ pub mod OneMore
 pub mod verdicts
 pub mod numbered
 pub mod examples
+mod MemberWords

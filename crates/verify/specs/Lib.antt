@@ -6,6 +6,7 @@ pub mod ClassRuns
 pub mod ClassRunSafety
 pub mod ClassRunBreadth
 pub mod PlayableMethods
+pub mod MemberWords
 pub mod Plays
 pub mod VerifiedWalks
 pub mod Together

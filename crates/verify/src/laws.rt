@@ -5,6 +5,7 @@ ghost use Rattle.verify.specs.DetailLaws.{DetailsAreTold, MapDetailsAreTold};
 ghost use Rattle.verify.specs.FitsBreadth.{FitsBreadth};
 ghost use Rattle.verify.specs.ClassRunBreadth.{ClassRunBreadth};
 ghost use Rattle.verify.specs.PlayableMethods.{AllAreInPlay, PlayableIsSafe};
+ghost use Rattle.verify.specs.MemberWords.{BootstrapsAreSaid, GuardsAreSaid, PackagesAreSaid};
 ghost use Rattle.verify.specs.JudgedFrames.{FramesAreJudged};
 ghost use Rattle.verify.specs.OneVerdict.{OneVerdict, OneReport, OneFrames};
 ghost use Rattle.verify.specs.VerdictLaws.{TypeSafeIsVerified, VerifiedIsTypeSafe};
@@ -106,4 +107,12 @@ pub fn class_run_breadth()
 pub fn playable_methods_are_safe()
     ensures in_play { AllAreInPlay }
     ensures safe { PlayableIsSafe }
+{}
+
+/// The words on which 82 and 90 rest mean what the standard says: the package of a class by its name, the members that a
+/// class may use on its own objects alone, and the bootstrap methods that may be used.
+pub fn member_words_are_said()
+    ensures packages { PackagesAreSaid }
+    ensures guards { GuardsAreSaid }
+    ensures bootstraps { BootstrapsAreSaid }
 {}
