@@ -34,3 +34,4 @@ pub mod verdicts
 pub mod numbered
 pub mod examples
 mod MemberWords
+mod SeenMethods

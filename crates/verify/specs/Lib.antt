@@ -7,6 +7,7 @@ pub mod ClassRunSafety
 pub mod ClassRunBreadth
 pub mod PlayableMethods
 pub mod MemberWords
+pub mod SeenMethods
 pub mod Plays
 pub mod VerifiedWalks
 pub mod Together

@@ -1,4 +1,5 @@
-//! The meaning of the verdict on a method, and the breadth of class runs.
+//! The meaning of the verdict on a method, the breadth of class runs, and the words by which methods and members are
+//! seen.
 ghost use Rattle.verify.specs.Breaks.{ConditionsAreFields, MapRefusedBreaks, RefusedBreaks};
 ghost use Rattle.verify.specs.Refusals.{MapRefusedWhere, RefusedWhere};
 ghost use Rattle.verify.specs.DetailLaws.{DetailsAreTold, MapDetailsAreTold};
@@ -6,6 +7,7 @@ ghost use Rattle.verify.specs.FitsBreadth.{FitsBreadth};
 ghost use Rattle.verify.specs.ClassRunBreadth.{ClassRunBreadth};
 ghost use Rattle.verify.specs.PlayableMethods.{AllAreInPlay, PlayableIsSafe};
 ghost use Rattle.verify.specs.MemberWords.{BootstrapsAreSaid, GuardsAreSaid, PackagesAreSaid};
+ghost use Rattle.verify.specs.SeenMethods.{MethodsAreSeen};
 ghost use Rattle.verify.specs.JudgedFrames.{FramesAreJudged};
 ghost use Rattle.verify.specs.OneVerdict.{OneVerdict, OneReport, OneFrames};
 ghost use Rattle.verify.specs.VerdictLaws.{TypeSafeIsVerified, VerifiedIsTypeSafe};
@@ -115,4 +117,10 @@ pub fn member_words_are_said()
     ensures packages { PackagesAreSaid }
     ensures guards { GuardsAreSaid }
     ensures bootstraps { BootstrapsAreSaid }
+{}
+
+/// A method with code is seen as its class file has it: its class and superclass, its flags and its name, its limits, its
+/// exception table, and the fields of its class.
+pub fn methods_are_seen()
+    ensures { MethodsAreSeen }
 {}
