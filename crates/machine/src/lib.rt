@@ -28,6 +28,10 @@
 //! - `specs/Breadth.antt`, `specs/Pushes.antt`: laws of steps: nothing is left out, nothing else happens, and what
 //!   stands on the stack after them.
 //! - `specs/Uses.antt`: a law of the objects that an instruction uses.
+//! - `specs/OperandTypes.antt`, `specs/NamedConstants.antt`, `specs/Stores.antt`: laws of what an instruction takes, of the
+//!   constant that it names, and of what a store leaves.
+//! - `specs/Below.antt`: a law of which types are below which.
+//! - `specs/SharedWords.antt`: laws of the words that rules and machine share.
 //! - `specs/RunBreadth.antt`: laws of initial states and runs.
 //! - `specs/ByAct.antt`, `specs/ByType.antt`: the words in which laws speak.
 //! - `specs/Views.antt`, `specs/Bodies.antt`: what the program's values stand for.

@@ -5,12 +5,16 @@ use hierarchy::{Rows, summary_of};
 use lower_calls::making::{hasher, object};
 use std::alloc::Global;
 use std::test::*;
-use verify::{PlayFault, PlayRule, class_run_breadth, verified_is_playable, verify_play};
+use verify::{
+    PlayFault, PlayRule, class_run_breadth, playable_methods_are_safe, verified_is_playable,
+    verify_play,
+};
 
 #[test]
 fn theorem_and_law_are_called() {
     verified_is_playable();
     class_run_breadth();
+    playable_methods_are_safe();
 }
 
 /// How many reports there are on these classes, where there is `java/lang/Object`, and the class if it is known.

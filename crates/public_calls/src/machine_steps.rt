@@ -18,6 +18,12 @@ fn laws_are_called() {
     laws::step_bounds();
     laws::stack_bounds();
     laws::used_is_initialized();
+    laws::operands_are_typed();
+    laws::constants_are_named();
+    laws::stores_are_written();
+    laws::below_is_by_cases();
+    laws::shared_words_are_said();
+    laws::constants_are_said();
     laws::start_breadth();
     laws::run_breadth();
     laws::world_breadth();

@@ -8,9 +8,9 @@ use std::test::*;
 use type_numbers::TypeNumbers;
 use verify::{
     ClassFault, MethodVerdict, Report, Verdict, VerifyFault, fits_breadth, frames_are_judged,
-    map_refused_where, one_frames, one_report, one_verdict, refused_breaks, refused_where,
-    type_safe_is_safe, type_safe_is_verified, verified_is_type_safe, verify_by_numbers,
-    verify_class, verify_method, verify_methods,
+    map_refused_where, member_words_are_said, methods_are_seen, one_frames, one_report,
+    one_verdict, refused_breaks, refused_where, type_safe_is_safe, type_safe_is_verified,
+    verified_is_type_safe, verify_by_numbers, verify_class, verify_method, verify_methods,
 };
 
 #[test]
@@ -26,6 +26,8 @@ fn theorem_and_laws_are_called() {
     one_report();
     one_frames();
     frames_are_judged();
+    member_words_are_said();
+    methods_are_seen();
 }
 
 /// The verdict on the class's first method, where there are `java/lang/Object` and the class, as it is or as a final

@@ -32,7 +32,8 @@
 //!
 //! - `theorem`: type-safe methods are safe, one by one and where calls enter them.
 //! - `laws`: a method is verified exactly where it is type-safe; it has one verdict; the meaning of each refusal and of
-//!   its number; a type of the machine takes what the verifier lets it take; walks are runs.
+//!   its number; a type of the machine takes what the verifier lets it take; walks are runs; which methods are in play,
+//!   and that each of them is safe; the words on which 82 and 90 rest; what is seen of a method.
 //! - `verified_walk`: walks of the machine through verified methods.
 #![tactic(auto)]
 
@@ -77,8 +78,9 @@ pub use judgements::{EachFault, Judgement, verify_each};
 pub use known_classes::{AmongFault, explain_among_under, verify_among, verify_among_under};
 pub use laws::{
     class_run_breadth, details_are_told, fits_breadth, frames_are_judged, map_details_are_told,
-    map_refused_where, one_frames, one_report, one_verdict, refused_breaks, refused_where,
-    type_safe_is_verified, verified_is_type_safe, walks_are_runs,
+    map_refused_where, member_words_are_said, methods_are_seen, one_frames, one_report,
+    one_verdict, playable_methods_are_safe, refused_breaks, refused_where, type_safe_is_verified,
+    verified_is_type_safe, walks_are_runs,
 };
 pub use method::verify_method;
 pub use play::{PlayFault, PlayRule, verify_play};
