@@ -7,6 +7,9 @@ use std::alloc::{AllocError, Global};
 use std::collections::BTreeSet;
 use std::collections::btree_set::Range;
 
+/// At so many places or fewer an object is replaced place by place.
+const FEW: usize = 64;
+
 /// The places that came to hold each object that is not initialized (JVMS 4.10.1.9, new and invokespecial). Some may
 /// hold it no more.
 ///
@@ -85,6 +88,18 @@ impl Holders {
     {
         self.keys
             .range(key_of(object, 0)..=key_of(object, u32::MAX))
+    }
+
+    /// Whether an object was listed for few places.
+    pub fn are_few(&self, object: u32) -> bool {
+        let mut count = 0;
+        for _ in self.of(object) {
+            count += 1;
+            if count > FEW {
+                return false;
+            }
+        }
+        true
     }
 
     /// Forgets all.
