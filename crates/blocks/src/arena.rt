@@ -1,13 +1,13 @@
 //! The rows of a method.
-ghost use Rattle.std.specs.Prelude.{◌≡◌, ◌<◌, ◌≤◌, ◌^◌, ◌++◌, ◌∷◌, [], length, replicate, slice_index, slice_index_or, slice_set, IfOk, OnOk, OnErr};
-ghost use Rattle.blocks.specs.Rows.{declared_row, IsFirstUndecided, IsFirstUnequal, IsSaidToFit};
+ghost use Rattle.std.specs.Prelude.{◌≡◌, ◌<◌, ◌≤◌, ◌^◌, ◌++◌, ◌∷◌, [], length, map, replicate, slice_index, slice_index_or, slice_set, IfOk, OnOk, OnErr};
+ghost use Rattle.blocks.specs.Rows.{declared_row, IsFirstUndecided, IsFirstUnequal, IsSaidToFit, replaced};
 ghost use Rattle.blocks.specs.private.Trees.{width};
 ghost use Rattle.blocks.specs.private.Arenas.{empty_node, AreEmpty};
 
 use crate::comparison::{first_undecided_below, first_unequal_below};
 use crate::fitting::note;
 use crate::node::{LEVELS, Node};
-use crate::replacing::{Replacements, replace};
+use crate::replacing::Replacements;
 use crate::tree::{number, put};
 use std::alloc::{AllocError, Global};
 use std::marker::Model;
@@ -52,11 +52,11 @@ impl Model for Arena {
 
     ghost Value = { Rows };
 
-    ghost use Rattle.blocks.specs.private.Arenas.{rows_of, IsArena};
+    ghost use Rattle.blocks.specs.private.Arenas.{rows_of, IsWholeArena};
 
     ghost view = { λ a. rows_of a.nodes.items a.root a.kept a.count a.declared.items };
 
-    ghost invariant = { λ a. IsArena a.nodes.items a.own a.root a.kept a.count a.declared.items };
+    ghost invariant = { λ a. IsWholeArena a.nodes.items a.own a.root a.kept a.count a.declared.items a.replacements };
 }
 
 /// For so many nodes there is room at first, which is as many as the rows of most methods have.
@@ -216,7 +216,9 @@ impl Arena {
             ≡ record self.old { running = map (replaced number by) self.old.running }) }
         ensures err { OnErr result (self.new ≡ self.old) }
     {
-        let root = replace(&mut self.nodes, &mut self.replacements, self.root, number, by);
+        let root = self
+            .replacements
+            .replace(&mut self.nodes, self.root, number, by);
         self.own = self.nodes.len() as u32;
         self.root = root?;
         Ok(())

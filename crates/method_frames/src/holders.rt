@@ -7,7 +7,7 @@ use std::alloc::{AllocError, Global};
 use std::collections::BTreeSet;
 use std::collections::btree_set::Range;
 
-/// At so many places or fewer an object is replaced place by place.
+/// So many places are few.
 const FEW: usize = 64;
 
 /// The places that came to hold each object that is not initialized (JVMS 4.10.1.9, new and invokespecial). Some may
@@ -90,14 +90,14 @@ impl Holders {
             .range(key_of(object, 0)..=key_of(object, u32::MAX))
     }
 
-    /// Whether an object was listed for few places.
+    /// Whether at most [`FEW`] places are listed for an object.
     pub fn are_few(&self, object: u32) -> bool {
-        let mut count = 0;
-        for _ in self.of(object) {
-            count += 1;
-            if count > FEW {
+        let mut left = FEW;
+        for _key in self.of(object) {
+            if left == 0 {
                 return false;
             }
+            left -= 1;
         }
         true
     }

@@ -1,15 +1,17 @@
 -- Classes by the parts of their numbers, and what is answered about them.
-use Rattle.std.proofs.Common.{◌≡◌, ◌≢◌, ◌∙◌, ℕ, zero, suc, ◌+◌, ◌/◌, ◌%◌, ◌≤◌, ◌||◌, Bool, true, false, cond, if◌then◌else◌, nat_lt, nat_eq, List, Option, Some, None, position, refl, sym, ap, subst, arith}
+use Rattle.std.proofs.Common.{◌≡◌, ◌≢◌, ◌∙◌, ℕ, zero, suc, ◌+◌, ◌/◌, ◌%◌, ◌≤◌, ◌||◌, Bool, true, false, cond, if◌then◌else◌, nat_lt, nat_eq, List, Option, Some, None, option_map, length, position, refl, sym, ap, subst, arith}
+use Rattle.std.specs.Option.{option_map_or}
 use Rattle.std.specs.Str.{bytes_eq}
 use Rattle.std.proofs.lemmas.Bool.{eqb-true, ltb-true}
 use Rattle.std.proofs.lemmas.Bool.Decides.{nat_tests}
 use Rattle.std.proofs.lemmas.Slice.Eq.{bytes_eq-Decides}
 use Rattle.names.specs.Descriptors.{class as class_type, dimensioned}
 use Rattle.names.specs.StandardNames.{object_name}
-use Rattle.hierarchy.specs.Answer.{Outcome, yes}
-use Rattle.hierarchy.specs.Class.{ClassFact, interface_of}
+use Rattle.hierarchy.specs.Answer.{Outcome, SubclassAnswer, missing, on_chain, yes, yes_if}
+use Rattle.hierarchy.specs.Class.{ClassFact, class_of, interface_of, world_of}
 use Rattle.hierarchy.specs.Places.{place_in}
-use Rattle.hierarchy.proofs.Names.{none_some, some_same}
+use Rattle.hierarchy.proofs.Names.{no_place, none_some, some_same}
+use Rattle.hierarchy.proofs.Subclass.{one_answer}
 use Rattle.frames.specs.Assignable.{class_answer, component_answer, lookup_answer, type_answer}
 use Rattle.frames.specs.VerificationType.{VerificationType}
 use Rattle.type_numbers.specs.Numbers.{Numbering, IsNumber, absent_limit, class_number, number_by, numbered}
@@ -48,7 +50,9 @@ module _ (s : Numbering) (n : ℕ) where
 
   number_named : (d : ℕ) (name : List ℕ) → IsNumber s n (type_named d name) → class_number s.classes s.absent d name ≡ Some n
   number_named zero name h = h.number
-  number_named (suc k) name h = sym (array_counted s.classes s.absent 1 k (class_type name)) ∙ h.number
+  number_named (suc k) name h =
+      let more : suc k ≡ 1 + k = omega arith in
+      ap (λ d. class_number s.classes s.absent d name) more ∙ sym (array_counted s.classes s.absent 1 k (class_type name)) ∙ h.number
 
   named_type : (tag dims rest : ℕ) → names_class tag ≡ true → type_at s tag dims rest ≡ type_with dims (name_at s tag rest)
   named_type tag dims rest e = by (nat_eq tag 7) refl e
@@ -69,7 +73,17 @@ module _ (s : Numbering) (n : ℕ) where
       by None is f = absurd (none_some f)
       by (Some name) is f =
           let same = sym (some_same f) in
-          (name, same, record { name = is; place = places (n / 65536 % 256) name (number_named (n / 65536 % 256) name (subst (IsNumber s n) same h)) })
+          (name, same, record { is = is; place = places (n / 65536 % 256) name (number_named (n / 65536 % 256) name (subst (IsNumber s n) same h)) })
+
+-- where it stands, by its tag
+module _ (s : Numbering) (tag rest : ℕ) (name : List ℕ) (h : IsClassAt s tag rest name) where
+  pub stands : tag ≡ 7 → place_in s.classes name ≡ Some rest
+  stands seven = h.place ∙ ap (λ k. if nat_eq k 7 then Some rest else None) seven
+
+  pub is_absent : tag ≢ 7 → class_of s.classes name ≡ None
+  is_absent other =
+      let e : nat_eq tag 7 ≡ false = grind (arith, nat_tests) in
+      no_place (λ (c : ClassFact). bytes_eq name c.name) s.classes (h.place ∙ ap (λ b. if b then Some rest else None) e)
 
 -- ---- answers for classes
 
@@ -83,17 +97,30 @@ named_answer classes zero a b = refl
 named_answer classes (suc k) a b = component_named classes k a b
 
 module _ (classes : List ClassFact) (a b : List ℕ) where
+  apart : a ≢ b → bytes_eq a b ≡ false
+  apart differ = by (bytes_eq a b) refl
+    where
+      by : (t : Bool) → bytes_eq a b ≡ t → t ≡ false
+      by true h = absurd (differ ((bytes_eq-Decides a b).0 h))
+      by false h = refl
+
+  -- a class that is looked up and is absent
+  pub absent_answer : class_of classes b ≡ None → missing b ≡ lookup_answer classes a b (interface_of classes b)
+  absent_answer e = sym (ap (λ o. lookup_answer classes a b (option_map (λ (c : ClassFact). c.interface) o)) e)
+
+  -- one that is no interface, where it is asked about a class that is absent, or about one that is there
+  pub lower_absent : a ≢ b → interface_of classes b ≡ Some false → class_of classes a ≡ None → missing a ≡ lookup_answer classes a b (interface_of classes b)
+  lower_absent differ e none =
+      sym (ap (lookup_answer classes a b) e
+      ∙ (λ i. if apart differ i then yes else option_map_or (λ _. yes_if (on_chain (world_of classes) (length classes) a b)) (none i) (missing a)))
+
+  pub lower_present : (r : Bool) → interface_of classes b ≡ Some false → SubclassAnswer classes a b (yes_if r) → yes_if r ≡ lookup_answer classes a b (interface_of classes b)
+  lower_present r e below = (one_answer classes a b (yes_if r)).0 below ∙ sym (ap (lookup_answer classes a b) e)
+
   -- two classes that differ, where the look-up gives an answer
   pub found_answer : (r : Outcome) → a ≢ b → r ≡ lookup_answer classes a b (interface_of classes b) → bytes_eq b object_name ≡ false → r ≡ class_answer classes a b
   found_answer r differ e other =
-      e ∙ sym (λ i. if apart i || other i then yes else lookup_answer classes a b (interface_of classes b))
-    where
-      apart : bytes_eq a b ≡ false
-      apart = by (bytes_eq a b) refl
-        where
-          by : (t : Bool) → bytes_eq a b ≡ t → t ≡ false
-          by true h = absurd (differ ((bytes_eq-Decides a b).0 h))
-          by false h = refl
+      e ∙ sym (λ i. if apart differ i || other i then yes else lookup_answer classes a b (interface_of classes b))
 
   pub yes_answer : yes ≡ lookup_answer classes a b (interface_of classes b) → yes ≡ class_answer classes a b
   yes_answer e = by (bytes_eq a b || bytes_eq b object_name)
