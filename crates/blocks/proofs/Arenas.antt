@@ -87,7 +87,7 @@ pairs_same ns ms own node t s lt (Some fit) e =
     (ap (λ l. number_at ms l fit slot) (sym told.2) ∙ s.numbers fit slot told.1 ∙ ap (λ l. number_at ns l fit slot) told.2)
     ∙ ap (λ a. (number_at ns (level_of ns node) fit slot, a)) (s.numbers node slot lt)) 0 (width (level_of ns node))
 
-known_below : (ns ms : List Node) (own : ℕ) → IsTree ns own → SharesSame ns ms own → (n : ℕ) → n ≤ own → known_pairs ms n ≡ known_pairs ns n
+pub known_below : (ns ms : List Node) (own : ℕ) → IsTree ns own → SharesSame ns ms own → (n : ℕ) → n ≤ own → known_pairs ms n ≡ known_pairs ns n
 known_below ns ms own t s zero le = refl
 known_below ns ms own t s (suc n) le =
     ap (λ xs. xs ++ pairs_of ms n (node_at ms n).seen) (known_below ns ms own t s n (omega (arith, le)))

@@ -6,3 +6,5 @@ pub mod Noting
 pub mod Putting
 pub mod Arenas
 pub mod Judging
+pub mod Outcomes
+pub mod Shared

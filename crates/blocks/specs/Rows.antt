@@ -1,5 +1,5 @@
 -- The rows of a method: one number for each local variable, which stands for its verification type (JVMS 4.10.1.2).
-use Rattle.std.specs.Prelude.{◌≡◌, ◌≢◌, ℕ, ◌≤◌, ◌<◌, Bool, true, false, nat_eq, ◌||◌, ◌⊎◌, List, [], length, slice_index, slice_index_or, Option, Some, None, Contains}
+use Rattle.std.specs.Prelude.{◌≡◌, ◌≢◌, ℕ, ◌≤◌, ◌<◌, Bool, true, false, nat_eq, ◌||◌, if◌then◌else◌, ◌⊎◌, List, [], length, slice_index, slice_index_or, Option, Some, None, Contains}
 
 pub record Rows : Type 0 where
   -- the row of the running frame
@@ -17,6 +17,10 @@ declared_row rows row = slice_index_or rows.declared row []
 -- numbers alone show that the first fits the second: they are equal, or Top is wanted
 abbrev pub is_decided : ℕ → ℕ → Bool
 is_decided number wanted = nat_eq number wanted || nat_eq wanted 0
+
+-- another number takes the place of one
+abbrev pub replaced : ℕ → ℕ → ℕ → ℕ
+replaced number by n = if nat_eq n number then by else n
 
 -- at a slot, the running row fits a declared one by numbers alone, or by what was said before
 abbrev pub IsSettled : Rows → ℕ → ℕ → Type 0

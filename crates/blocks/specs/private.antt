@@ -2,3 +2,4 @@
 pub mod Blocks
 pub mod Trees
 pub mod Arenas
+pub mod Replacing

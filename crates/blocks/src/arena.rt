@@ -1,12 +1,13 @@
 //! The rows of a method.
-ghost use Rattle.std.specs.Prelude.{◌≡◌, ◌<◌, ◌≤◌, ◌^◌, ◌++◌, ◌∷◌, [], length, replicate, slice_index, slice_index_or, slice_set, IfOk, OnOk, OnErr};
-ghost use Rattle.blocks.specs.Rows.{declared_row, IsFirstUndecided, IsFirstUnequal, IsSaidToFit};
+ghost use Rattle.std.specs.Prelude.{◌≡◌, ◌<◌, ◌≤◌, ◌^◌, ◌++◌, ◌∷◌, [], length, map, replicate, slice_index, slice_index_or, slice_set, IfOk, OnOk, OnErr};
+ghost use Rattle.blocks.specs.Rows.{declared_row, IsFirstUndecided, IsFirstUnequal, IsSaidToFit, replaced};
 ghost use Rattle.blocks.specs.private.Trees.{width};
 ghost use Rattle.blocks.specs.private.Arenas.{empty_node, AreEmpty};
 
 use crate::comparison::{first_undecided_below, first_unequal_below};
 use crate::fitting::note;
 use crate::node::{LEVELS, Node};
+use crate::replacing::Replacements;
 use crate::tree::{number, put};
 use std::alloc::{AllocError, Global};
 use std::marker::Model;
@@ -42,6 +43,8 @@ pub struct Arena {
     kept: u32,
     count: usize,
     declared: Vec<u32>,
+    /// What came of shared nodes in which a number was replaced.
+    replacements: Replacements,
 }
 
 impl Model for Arena {
@@ -49,11 +52,11 @@ impl Model for Arena {
 
     ghost Value = { Rows };
 
-    ghost use Rattle.blocks.specs.private.Arenas.{rows_of, IsArena};
+    ghost use Rattle.blocks.specs.private.Arenas.{rows_of, IsWholeArena};
 
     ghost view = { λ a. rows_of a.nodes.items a.root a.kept a.count a.declared.items };
 
-    ghost invariant = { λ a. IsArena a.nodes.items a.own a.root a.kept a.count a.declared.items };
+    ghost invariant = { λ a. IsWholeArena a.nodes.items a.own a.root a.kept a.count a.declared.items a.replacements };
 }
 
 /// For so many nodes there is room at first, which is as many as the rows of most methods have.
@@ -131,6 +134,7 @@ impl Arena {
             kept: top,
             count: count as usize,
             declared: Vec::new(alloc),
+            replacements: Replacements::new(alloc),
         })
     }
 
@@ -146,6 +150,7 @@ impl Arena {
         let top = top_of(count);
         clear(&mut self.nodes);
         self.declared.clear();
+        self.replacements.clear();
         self.own = LEVELS;
         self.root = top;
         self.kept = top;
@@ -201,11 +206,36 @@ impl Arena {
         Ok(Row { place })
     }
 
-    /// The running row becomes a declared one. Takes no memory, and no more time for a long row.
+    /// Puts a number in place of another, throughout the running row. All rows share what comes of a node that they
+    /// share: so to do it again in a row that another one shares takes time for the nodes in which the two differ.
+    ///
+    /// The nodes that come of it stay until the arena begins anew: [`has_room`](Arena::has_room) bounds them.
+    pub fn replace(&mut self, number: u32, by: u32) -> Result<(), AllocError>
+        requires { 0 < number }
+        ensures ok { OnOk result (self.new
+            ≡ record self.old { running = map (replaced number by) self.old.running }) }
+        ensures err { OnErr result (self.new ≡ self.old) }
+    {
+        let root = self
+            .replacements
+            .replace(&mut self.nodes, self.root, number, by);
+        self.own = self.nodes.len() as u32;
+        self.root = root?;
+        Ok(())
+    }
+
+    /// Whether fewer nodes came of replacements than an arena may keep.
+    pub fn has_room(&self) -> bool {
+        self.replacements.has_room()
+    }
+
+    /// The running row becomes a declared one. Takes no memory, and no more time for a long row; nodes that it had alone
+    /// are given back.
     pub fn take(&mut self, row: Row)
         requires { row < length self.old.declared }
         ensures { self.new ≡ record self.old { running = declared_row self.old row } }
     {
+        self.nodes.truncate(self.own as usize);
         self.root = root_of(&self.declared, row);
     }
 

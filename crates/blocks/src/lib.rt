@@ -38,6 +38,7 @@ mod comparison;
 mod fitting;
 pub mod laws;
 mod node;
+mod replacing;
 mod tree;
 
 pub use arena::{Arena, Row};

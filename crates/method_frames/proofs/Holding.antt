@@ -1,6 +1,7 @@
 -- Rows of which the places that hold objects are listed, as they change.
-use Rattle.std.proofs.Common.{◌≡◌, ◌∙◌, ℕ, suc, ◌<◌, Bool, true, false, cond, nat_eq, List, [], ◌∷◌, ◌++◌, length, map, replicate, set, get_or, Result, Ok, Err, OnOk, OnErr, refl, sym, ap, subst, inl, inr, ◌⊎◌, arith}
-use Rattle.std.proofs.lemmas.Bool.{cases_eq, cases_lt, true≢false}
+use Rattle.std.proofs.Common.{◌≡◌, ◌∙◌, ℕ, zero, suc, ◌<◌, Bool, true, false, cond, nat_eq, List, [], ◌∷◌, ◌++◌, length, map, replicate, set, get_or, Result, Ok, Err, OnOk, OnErr, refl, sym, ap, subst, inl, inr, ◌⊎◌, arith}
+use Rattle.std.specs.declared.alloc.AllocError.{AllocError}
+use Rattle.std.proofs.lemmas.Bool.{eqb-true, cases_eq, cases_lt, true≢false}
 use Rattle.std.proofs.lemmas.Bool.Decides.{nat_tests}
 use Rattle.std.proofs.lemmas.List.{length-set, length-append, length-replicate, get_or-set_same, get_or-set_other, length-map, get_or_append_left, get_or_push, get_or-replicate, get_or-map}
 use Rattle.type_numbers.specs.Numbers.{Numbering, IsGiven}
@@ -145,3 +146,31 @@ module _ (object by : ℕ) (own : is_uninitialized object ≡ true) where
 
   pub none_replaced : (x : Holders) (row : List ℕ) → ((o place : ℕ) → IsListed x o place → ⊥) → AreListed x row → row ≡ map (replaced object by) row
   none_replaced x row none all = none_among row (λ place lt o. none (get_or row place 0) place (all place lt o))
+
+-- ---- a row in which a number takes the place of an object's throughout
+
+each_replaced : (object by : ℕ) (row : List ℕ) (place : ℕ) → (get_or (map (replaced object by) row) place 0 ≡ get_or row place 0) ⊎ ((get_or row place 0 ≡ object) × (get_or (map (replaced object by) row) place 0 ≡ by))
+each_replaced object by [] place = inl refl
+each_replaced object by (n ∷ ns) zero = which (nat_eq n object) refl
+  where
+    which : (b : Bool) → nat_eq n object ≡ b → (cond (nat_eq n object) by n ≡ n) ⊎ ((n ≡ object) × (cond (nat_eq n object) by n ≡ by))
+    which true e = inr (eqb-true n object e, ap (λ b. cond b by n) e)
+    which false e = inl (ap (λ b. cond b by n) e)
+each_replaced object by (n ∷ ns) (suc place) = each_replaced object by ns place
+
+pub replaces_whole : (object by : ℕ) (old new : Rows) (r : Result Unit AllocError) → OnOk r (new ≡ record old { running = map (replaced object by) old.running }) → OnErr r (new ≡ old) → Replaces object by old new
+replaces_whole object by old new (Ok u) is same = record {
+  rest = is ∙ (λ i. record old { running = (sym is i).running });
+  size = ap (λ (x : Rows). length x.running) is ∙ length-map old.running (replaced object by);
+  each = λ place. subst (λ (x : Rows). (get_or x.running place 0 ≡ get_or old.running place 0) ⊎ ((get_or old.running place 0 ≡ object) × (get_or x.running place 0 ≡ by))) (sym is) (each_replaced object by old.running place);
+}
+replaces_whole object by old new (Err error) is same = record {
+  rest = same ∙ (λ i. record old { running = (sym same i).running });
+  size = ap (λ (x : Rows). length x.running) same;
+  each = λ place. inl (ap (λ (x : Rows). get_or x.running place 0) same);
+}
+
+-- the number of an object is not that of Top
+pub object_high : (object : ℕ) → is_uninitialized object ≡ true → 0 < object
+object_high zero own = absurd (true≢false (sym own))
+object_high (suc n) own = omega arith

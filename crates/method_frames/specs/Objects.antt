@@ -2,6 +2,7 @@
 use Rattle.std.specs.Prelude.{ℕ, ◌+◌, ◌/◌, Bool, false, ◌||◌, nat_eq, if◌then◌else◌, List, [], ◌∷◌, map}
 use Rattle.frames.specs.VerificationType.{class}
 use Rattle.type_numbers.specs.Numbers.{Numbering, IsNumber}
+use Rattle.blocks.specs.Rows.{replaced as number_replaced}
 use Rattle.method_frames.specs.NumberedFrames.{NumberedFrame}
 
 -- the number of the own object that is not initialized
@@ -23,7 +24,7 @@ holds object (n ∷ ns) = nat_eq n object || holds object ns
 
 -- another number takes the place of an object's
 abbrev pub replaced : ℕ → ℕ → ℕ → ℕ
-replaced object by n = if nat_eq n object then by else n
+replaced object by n = number_replaced object by n
 
 -- the own object is initialized with its replacement
 abbrev pub flag_after : ℕ → Bool → Bool

@@ -7,6 +7,9 @@ use std::alloc::{AllocError, Global};
 use std::collections::BTreeSet;
 use std::collections::btree_set::Range;
 
+/// So many places are few.
+const FEW: usize = 64;
+
 /// The places that came to hold each object that is not initialized (JVMS 4.10.1.9, new and invokespecial). Some may
 /// hold it no more.
 ///
@@ -85,6 +88,18 @@ impl Holders {
     {
         self.keys
             .range(key_of(object, 0)..=key_of(object, u32::MAX))
+    }
+
+    /// Whether at most [`FEW`] places are listed for an object.
+    pub fn are_few(&self, object: u32) -> bool {
+        let mut left = FEW;
+        for _key in self.of(object) {
+            if left == 0 {
+                return false;
+            }
+            left -= 1;
+        }
+        true
     }
 
     /// Forgets all.

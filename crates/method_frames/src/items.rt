@@ -190,20 +190,15 @@ impl Items {
         Some(number)
     }
 
-    /// Takes all off, and keeps the memory.
+    /// Takes all off, forgets which places came to hold objects, and keeps the memory.
     pub fn clear(&mut self)
         ensures { self.new ≡ [] }
     {
         self.numbers.clear();
         self.wides = 0;
-    }
-
-    /// Begins anew with none, and forgets which places came to hold objects. Keeps the memory.
-    pub fn restart(&mut self)
-        ensures { self.new ≡ [] }
-    {
-        self.clear();
-        self.holders.clear();
+        if !self.holders.are_none() {
+            self.holders.clear();
+        }
     }
 
     /// The item with so many above it; the top has none.

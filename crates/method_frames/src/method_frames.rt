@@ -507,6 +507,20 @@ impl<'t, 'c, 'n, C: Classes> MethodFrames<'t, 'c, 'n, C> {
         self.types().assignable(number, wanted)
     }
 
+    pub fn declared_local(&self, frame: usize, place: usize) -> u32 
+        requires frame { frame < length self.now.declared }
+    {
+        let declared = self.declared[frame];
+        self.locals.declared(declared.locals, place)
+    }
+
+    pub fn takes_locals(&mut self, frame: usize) -> bool 
+        requires frame { frame < length self.old.declared }
+    {
+        let declared = self.declared[frame];
+        matches!(self.locals.answer(declared.locals), Answer::Yes)
+    }
+
     /// Whether a type may stand for a local variable of a declared frame; each may where there is no such local. Takes
     /// no memory.
     pub fn takes(&self, frame: usize, place: usize, number: u32) -> bool

@@ -124,7 +124,7 @@ impl<'t, 'c, 'n, C: Classes> StackRows<'t, 'c, 'n, C> {
     pub fn restart(&mut self, limit: u16)
         ensures { self.new ≡ record { types = self.old.types; limit = limit; running = []; declared = [] } }
     {
-        self.items.restart();
+        self.items.clear();
         self.rows.restart(limit);
         self.written = 0;
         self.high = 0;

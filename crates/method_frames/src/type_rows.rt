@@ -85,6 +85,25 @@ fn replace_listed(
     Ok(())
 }
 
+/// Puts a number in place of an object's throughout the running row: at each of its places, or, where it was listed for
+/// many, node by node.
+fn replace_object(
+    object: u32,
+    by: u32,
+    holders: &Holders,
+    rows: &mut Arena,
+) -> Result<(), AllocError>
+    requires object { is_uninitialized object ≡ true }
+    requires listed { AreListed holders.now rows.old.running }
+    ensures only { Replaces object by rows.old rows.new }
+    ensures all { OnOk result (rows.new.running ≡ map (replaced object by) rows.old.running) }
+{
+    if holders.are_few(object) || !rows.has_room() {
+        return replace_listed(object, by, holders, rows);
+    }
+    rows.replace(object, by)
+}
+
 impl<'t, 'c, 'n, C: Classes> TypeRows<'t, 'c, 'n, C> {
     ghost use Rattle.std.specs.Prelude.{◌≡◌, ◌≢◌, ◌<◌, ◌^◌, ◌∷◌, ◌++◌, ◌⊎◌, ◌≤◌, ℕ, true, false, [], length, map, take, drop, replicate, slice_index, slice_set, IfOk, OnOk, OnErr};
     ghost use Rattle.frames.specs.VerificationType.{VerificationType, type_of};
@@ -187,7 +206,7 @@ impl<'t, 'c, 'n, C: Classes> TypeRows<'t, 'c, 'n, C> {
             → types_by s self.new.running ≡ map (type_replaced o t) (types_by s self.old.running)) }
     {
         self.lacking = None;
-        replace_listed(object, by, &self.holders, &mut self.rows)
+        replace_object(object, by, &self.holders, &mut self.rows)
     }
 
     /// The number at a place of a declared row; 0, which is that of Top, where there is no such place.

@@ -2,6 +2,7 @@
 pub mod Readings
 pub mod Entries
 pub mod Deciding
+pub mod ClassesAt
 pub mod Places
 pub mod RecentPlaces
 pub mod SpelledTypes

@@ -1,7 +1,8 @@
 //! The parts of a number: a tag, a number of dimensions, and two bytes that tell types of one tag apart.
-ghost use Rattle.std.specs.Prelude.{◌≡◌, ◌+◌, ◌*◌, ◌/◌, ◌%◌, ◌&&◌, nat_eq, nat_lt, Some};
+ghost use Rattle.std.specs.Prelude.{◌≡◌, ◌+◌, ◌*◌, ◌/◌, ◌%◌, nat_lt, Some};
 ghost use Rattle.type_numbers.specs.Numbers.{absent_number, numbered};
 ghost use Rattle.type_numbers.specs.Decoding.{element_at};
+ghost use Rattle.type_numbers.specs.private.ClassesAt.{names_class};
 
 use crate::tags;
 use names::Primitive;
@@ -52,11 +53,11 @@ pub fn present_number(dims: u8, place: u16) -> u32
     .number()
 }
 
-/// Whether a number with these parts is that of a class in the hierarchy.
-pub fn is_present(parts: Parts) -> bool
-    ensures { result ≡ (nat_eq parts.tag 7 && nat_eq parts.dims 0) }
+/// Whether a number with these parts is that of a class, or of an array of one.
+pub fn names_class(parts: Parts) -> bool
+    ensures { result ≡ names_class parts.tag }
 {
-    parts.tag == tags::CLASS && parts.dims == 0
+    parts.tag == tags::CLASS || parts.tag >= tags::ABSENT
 }
 
 /// The number of an object that the `new` at this offset makes.

@@ -2,12 +2,12 @@
 
 use crate::absent_names::AbsentNames;
 use crate::deciding::decided;
-use crate::parts::{Parts, absent_number, element_at, is_present, present_number, uninit_number};
+use crate::parts::{Parts, absent_number, element_at, names_class, present_number, uninit_number};
 use crate::recent_places::RecentPlaces;
 use crate::tags;
 use frames::{VType, assignable, pack};
 use hierarchy::{Answer, Classes};
-use names::Base;
+use names::{Base, OBJECT};
 use std::alloc::{AllocError, Global};
 use std::collections::BTreeMap;
 use std::marker::Model;
@@ -47,14 +47,17 @@ impl<'c, 'n, C: Classes> Model for TypeNumbers<'c, 'n, C> {
 }
 
 impl<'c, 'n, C: Classes> TypeNumbers<'c, 'n, C> {
-    ghost use Rattle.std.specs.Prelude.{◌≡◌, ◌-◌, ◌≤◌, [], ℕ, true, List, Some, IfOk, option_map};
+    ghost use Rattle.std.specs.Prelude.{◌≡◌, ◌≢◌, ◌-◌, ◌≤◌, [], ℕ, List, Some, IfOk, option_map};
+    ghost use Rattle.std.specs.Str.{bytes_eq};
+    ghost use Rattle.names.specs.StandardNames.{object_name};
     ghost use Rattle.names.specs.Descriptors.{base_of, dimensioned};
-    ghost use Rattle.hierarchy.specs.Answer.{outcome_of, yes};
-    ghost use Rattle.hierarchy.specs.Places.{place_in};
-    ghost use Rattle.frames.specs.Assignable.{class_answer, type_answer};
+    ghost use Rattle.hierarchy.specs.Answer.{outcome_of, missing};
+    ghost use Rattle.hierarchy.specs.Class.{interface_of};
+    ghost use Rattle.frames.specs.Assignable.{class_answer, lookup_answer, type_answer};
     ghost use Rattle.frames.specs.VerificationType.{VerificationType, array, type_of};
     ghost use Rattle.type_numbers.specs.Numbers.{class_number, IsNoted, IsNumber, IsGiven, Extends};
     ghost use Rattle.type_numbers.specs.Decoding.{name_at, type_with, type_at};
+    ghost use Rattle.type_numbers.specs.private.ClassesAt.{IsClassAt};
 
     /// No class has a number.
     pub fn new(alloc: Global, classes: &'c C) -> Self
@@ -195,8 +198,8 @@ impl<'c, 'n, C: Classes> TypeNumbers<'c, 'n, C> {
     /// Whether a value of the type of one number may stand where one of the type of another is wanted: the answer of
     /// [`assignable`](frames::assignable) for the types. Takes no memory.
     ///
-    /// The names of two classes are looked at only where their numbers and their places in the hierarchy do not tell
-    /// that it may.
+    /// Numbers tell it, with the places of classes in the hierarchy. A name is looked at only where Object may be wanted,
+    /// or for a class that is missing.
     pub fn assignable(&self, from: u32, to: u32) -> Answer<'n>
         requires from { IsGiven self.now from }
         requires to { IsGiven self.now to }
@@ -212,25 +215,76 @@ impl<'c, 'n, C: Classes> TypeNumbers<'c, 'n, C> {
         }
     }
 
-    /// Whether one class of the hierarchy stands below another one, or that one is an interface, by their places.
-    fn stands_below(&self, from: u16, to: u16) -> bool
-        ensures { (x y : List ℕ) → place_in self.now.classes x ≡ Some from → place_in self.now.classes y ≡ Some to
-            → result ≡ true → class_answer self.now.classes x y ≡ yes }
+    /// The answer that a class is missing, by the parts of its number.
+    fn missing(&self, class: Parts) -> Answer<'n>
+        requires { (x : List ℕ) × IsClassAt self.now class.tag class.rest x }
+        ensures { (x : List ℕ) → IsClassAt self.now class.tag class.rest x → outcome_of result ≡ missing x }
     {
-        self.classes.is_interface_at(to) || self.classes.is_below(from, to)
+        match self.name_at(class.tag, class.rest) {
+            Some(name) => Answer::Missing(name),
+            None => unreachable!(),
+        }
     }
 
-    /// The answer for the types of two numbers that is a question about classes: by the places of two classes in the
-    /// hierarchy where these say yes, and otherwise by the types.
+    /// Whether a class is `java/lang/Object`, by the parts of its number.
+    fn is_object(&self, class: Parts) -> bool
+        ensures { (x : List ℕ) → IsClassAt self.now class.tag class.rest x → result ≡ bytes_eq x object_name }
+    {
+        match self.name_at(class.tag, class.rest) {
+            Some(name) => name == OBJECT,
+            None => false,
+        }
+    }
+
+    /// The answer for two classes that differ, of which the second is not Object: it is looked up first. Places and the
+    /// order of absent names tell it, so that no name is hashed or compared.
+    fn looked_up(&self, from: Parts, to: Parts) -> Answer<'n>
+        requires from { (x : List ℕ) × IsClassAt self.now from.tag from.rest x }
+        requires to { (y : List ℕ) × IsClassAt self.now to.tag to.rest y }
+        ensures { (x y : List ℕ) → IsClassAt self.now from.tag from.rest x → IsClassAt self.now to.tag to.rest y
+            → x ≢ y → outcome_of result ≡ lookup_answer self.now.classes x y (interface_of self.now.classes y) }
+    {
+        if to.tag != tags::CLASS {
+            return self.missing(to);
+        }
+        if self.classes.is_interface_at(to.rest) {
+            return Answer::Yes;
+        }
+        if from.tag != tags::CLASS {
+            return self.missing(from);
+        }
+        Answer::yes_if(self.classes.is_below(from.rest, to.rest))
+    }
+
+    /// The answer for two classes that differ, by the parts of their numbers.
+    fn class_answer(&self, from: Parts, to: Parts) -> Answer<'n>
+        requires from { (x : List ℕ) × IsClassAt self.now from.tag from.rest x }
+        requires to { (y : List ℕ) × IsClassAt self.now to.tag to.rest y }
+        ensures { (x y : List ℕ) → IsClassAt self.now from.tag from.rest x → IsClassAt self.now to.tag to.rest y
+            → x ≢ y → outcome_of result ≡ class_answer self.now.classes x y }
+    {
+        let answer = self.looked_up(from, to);
+        if matches!(answer, Answer::Yes) {
+            return Answer::Yes;
+        }
+        if self.is_object(to) {
+            return Answer::Yes;
+        }
+        answer
+    }
+
+    /// The answer for the types of two numbers that differ, where it is a question about classes: two arrays of equally
+    /// many dimensions are asked as the classes that they are of.
     fn classes_assignable(&self, from: u32, to: u32) -> Answer<'n>
         requires from { IsGiven self.now from }
         requires to { IsGiven self.now to }
+        requires differ { from ≢ to }
         ensures { (s t : VerificationType) → IsNumber self.now from s → IsNumber self.now to t
             → outcome_of result ≡ type_answer self.now.classes s t }
     {
         let (one, other) = (Parts::of(from), Parts::of(to));
-        if is_present(one) && is_present(other) && self.stands_below(one.rest, other.rest) {
-            return Answer::Yes;
+        if one.dims == other.dims && names_class(one) && names_class(other) {
+            return self.class_answer(one, other);
         }
         self.types_assignable(from, to)
     }

@@ -3,7 +3,9 @@ use Rattle.std.specs.Prelude.{◌≡◌, ℕ, zero, suc, ◌-◌, ◌≤◌, ◌
 use Rattle.std.specs.List.{range_with_len}
 use Rattle.blocks.specs.Rows.{Rows}
 use Rattle.blocks.specs.private.Trees.{node_at, level_of, number_at, width, IsTree}
+use Rattle.blocks.specs.private.Replacing.{AreReplaced}
 use Rattle.blocks.specs.declared.node.Node.{Node}
+use Rattle.blocks.specs.declared.replacing.Replacements.{Replacements}
 
 -- the first numbers below a node
 abbrev pub row_of : List Node → ℕ → ℕ → List ℕ
@@ -42,6 +44,11 @@ pub record IsArena (ns : List Node) (own root kept count : ℕ) (declared : List
   pub rest : (slot : ℕ) → count ≤ slot → slot < width (level_of ns root) → number_at ns (level_of ns root) root slot ≡ 0
   pub rests : (i slot : ℕ) → i < length declared → count ≤ slot → slot < width (level_of ns root)
       → number_at ns (level_of ns root) (slice_index declared i) slot ≡ 0
+
+-- and what is remembered of replacements is so of nodes that are shared
+pub record IsWholeArena (ns : List Node) (own root kept count : ℕ) (declared : List ℕ) (r : Replacements) : Type 0 where
+  pub arena : IsArena ns own root kept count declared
+  pub replaced : AreReplaced ns own r
 
 -- a node of a level that holds nothing but Top
 abbrev pub empty_node : ℕ → Node

@@ -300,15 +300,13 @@ impl Handlers {
     }
 
     /// Whether the frames of all handlers that were compared, as long as their entries last, take what changed since.
-    fn take_changes<C: Classes>(&self, frames: &MethodFrames<'_, '_, '_, C>) -> bool
-        requires { (es : List ExceptionEntry) × (at : ℕ) × Follows frames.now es at self.now }
-        ensures { let x = frames.now in IsTrue result → (es : List ExceptionEntry) (at : ℕ)
-            → Follows x es at self.now → AreBegunTaken x at self.now }
+    fn take_changes<C: Classes>(&mut self, frames: &mut MethodFrames<'_, '_, '_, C>) -> Result<bool, AllocError>
     {
         if self.representatives.is_empty() {
-            return true;
+            return Ok(true);
         }
-        frames.flag() == self.flag && self.representatives.take_changes(frames)
+        if frames.flag() != self.flag { return Ok(false); }
+        self.representatives.take_changes(frames)
     }
 
     /// Whether the frame comes to the handlers of all entries that were compared and have not ended, by what changed
@@ -316,21 +314,21 @@ impl Handlers {
     fn are_taken<C: Classes>(
         &mut self,
         at: u16,
-        frames: &MethodFrames<'_, '_, '_, C>,
+        frames: &mut MethodFrames<'_, '_, '_, C>,
     ) -> Result<bool, AllocError>
-        requires { (es : List ExceptionEntry) × Follows frames.now es at self.old }
-        ensures followed { let x = frames.now in (es : List ExceptionEntry) → Follows x es at self.old
+        requires { (es : List ExceptionEntry) × Follows frames.old es at self.old }
+        ensures followed { let x = frames.old in (es : List ExceptionEntry) → Follows x es at self.old
             → OnOk result (Follows x es at self.new) }
         ensures ahead { AreAhead at self.old → OnOk result (AreAhead at self.new) }
-        ensures taken { let x = frames.now in (es : List ExceptionEntry) → Follows x es at self.old
+        ensures taken { let x = frames.old in (es : List ExceptionEntry) → Follows x es at self.old
             → IfOk result (λ taken. IsTrue taken → AreBegunTaken x at self.new) }
     {
         self.representatives.shrink(at)?;
-        if self.take_changes(frames) {
+        if self.take_changes(frames)? {
             return Ok(true);
         }
         self.representatives.drop_ended(at)?;
-        Ok(self.take_changes(frames))
+        self.take_changes(frames)
     }
 
     /// Keeps the locals of the running frame, with which the handlers of these entries were compared.
