@@ -59,3 +59,6 @@ module _ (s : Numbering) (xs ys : List ℕ) (even : length ys ≡ length xs) whe
   all_fit e k lt =
       let all = subst (RowAnswer os) e (row_holds os) in
       ap is_yes (all k _ (at k lt))
+
+  pub each_fits : list_answer answer (types_by s xs) (types_by s ys) ≡ yes → (k : ℕ) → k < length xs → answer (type_by s (get_or xs k 0)) (type_by s (get_or ys k 0)) ≡ yes
+  each_fits e k lt = yes_of (answer (type_by s (get_or xs k 0)) (type_by s (get_or ys k 0))) (all_fit (sym whole ∙ e) k lt)

@@ -3,12 +3,17 @@ use Rattle.std.proofs.Common.{◌≡◌, ◌∙◌, ℕ, suc, ◌+◌, ◌<◌, 
 use Rattle.std.specs.Prelude.{MatchOption}
 use Rattle.std.proofs.lemmas.Option.{slice_get_read}
 use Rattle.std.proofs.lemmas.List.{length-map, length-append, length-set, get_or-map, get_or_append_left, get_or_push, map_push}
+use Rattle.hierarchy.specs.Answer.{yes}
 use Rattle.insn.specs.Offsets.{at_offset}
+use Rattle.frames.specs.Assignable.{type_answer}
+use Rattle.frames.specs.FrameAssignable.{list_answer}
+use Rattle.type_numbers.specs.Decoding.{type_by, types_by}
 use Rattle.method_frames.specs.NumberedRows.{NumberedRows, declared_in}
 use Rattle.method_frames.specs.NumberedStacks.{NumberedStacks, declared_stack}
 use Rattle.method_frames.specs.NumberedFrames.{NumberedFrame, NumberedFrames, empty_frame, declared_frame}
 use Rattle.method_frames.specs.private.Frames.{frame_at, frames_of, HasParts, IsPlaceTable, AreFrames}
 use Rattle.method_frames.specs.declared.method_frames.Declared.{Declared}
+use Rattle.method_frames.proofs.Answering.{each_fits}
 use Rattle.method_frames.proofs.Heights.{declared_more, get_end}
 use Rattle.method_frames.proofs.Offsets.{same_table, table_more}
 
@@ -157,6 +162,17 @@ module _ (rows : NumberedRows) (stacks : NumberedStacks) (flag : Bool) (m : ℕ)
 
   pub its_locals : length (declared_frame x frame).locals ≡ length x.running.locals
   its_locals = ap (λ (f : NumberedFrame). length f.locals) its_frame ∙ is_declared.even ∙ ap (λ (y : NumberedFrames). length y.running.locals) is
+
+  -- where its row takes the running one, each of its locals takes that of the running frame
+  pub takes_each : yes ≡ list_answer (type_answer rows.types.classes) (types_by rows.types rows.running) (types_by rows.types (declared_in rows d.locals))
+      → (place : ℕ) → place < length x.running.locals
+      → type_answer x.types.classes (type_by x.types (get_or x.running.locals place 0)) (type_by x.types (get_or (declared_frame x frame).locals place 0)) ≡ yes
+  takes_each told place =
+      subst (λ (y : NumberedFrames). place < length y.running.locals
+      → type_answer y.types.classes (type_by y.types (get_or y.running.locals place 0)) (type_by y.types (get_or (declared_frame x frame).locals place 0)) ≡ yes) is
+      (λ less.
+      ap (λ (f : NumberedFrame). type_answer rows.types.classes (type_by rows.types (get_or rows.running place 0)) (type_by rows.types (get_or f.locals place 0))) its_frame
+      ∙ each_fits rows.types rows.running (declared_in rows d.locals) is_declared.even (sym told) place less)
 
 -- ---- one more
 

@@ -507,15 +507,14 @@ impl<'t, 'c, 'n, C: Classes> MethodFrames<'t, 'c, 'n, C> {
         self.types().assignable(number, wanted)
     }
 
-    pub fn declared_local(&self, frame: usize, place: usize) -> u32 
-        requires frame { frame < length self.now.declared }
-    {
-        let declared = self.declared[frame];
-        self.locals.declared(declared.locals, place)
-    }
-
-    pub fn takes_locals(&mut self, frame: usize) -> bool 
+    /// Whether each local variable of the running frame may stand for that of a declared one. Takes no memory, and no
+    /// more time than to compare what changed since the two were compared before.
+    pub fn takes_locals(&mut self, frame: usize) -> bool
         requires frame { frame < length self.old.declared }
+        ensures same { self.new ≡ self.old }
+        ensures taken { let x = self.old in IsTrue result → (place : ℕ) → place < length x.running.locals
+            → type_answer x.types.classes (type_by x.types (slice_index x.running.locals place))
+            (type_by x.types (slice_index (declared_frame x frame).locals place)) ≡ yes }
     {
         let declared = self.declared[frame];
         matches!(self.locals.answer(declared.locals), Answer::Yes)

@@ -161,6 +161,25 @@ module _ (x : NumberedFrames) (rs : List Representative) where
   pub changes_named : TakeChangesTo (length x.running.locals) → (frame : ℕ) → IsNamed rs frame → TakesChanges x frame (length x.running.locals)
   changes_named so frame n = subst (λ f. TakesChanges x f (length x.running.locals)) n.is (so n.place n.one n.here)
 
+-- ---- frames that are compared as a whole
+
+module _ (x : NumberedFrames) (rs : List Representative) where
+  -- the first so many frames of a list take what changed
+  abbrev pub FramesTakenTo : ℕ → Type 0
+  FramesTakenTo n = (k : ℕ) (r : Representative) → k < n → slice_get rs k ≡ Some r → TakesChanges x r.frame (length x.running.locals)
+
+  pub frames_more : (n : ℕ) (one : Representative) → slice_get rs n ≡ Some one → FramesTakenTo n → TakesChanges x one.frame (length x.running.locals) → FramesTakenTo (n + 1)
+  frames_more n one here so takes k r less at_k = elim (cases_lt k n) [
+    | inl lt ↦ so k r lt at_k
+    | inr ge ↦
+        (let same : k ≡ n = omega (arith, less, ge) in
+        let is : one ≡ r = some_same one r (sym here ∙ ap (slice_get rs) (sym same) ∙ at_k) in
+        subst (λ (z : Representative). TakesChanges x z.frame (length x.running.locals)) is takes)
+  ]
+
+  pub frames_all : (n : ℕ) → FramesTakenTo n → length rs ≤ n → TakeChangesTo x rs (length x.running.locals)
+  frames_all n so all k r at_k = let within = slice_get_within rs k r at_k in so k r (omega (arith, within, all)) at_k
+
 -- ---- one is put after the last
 
 module _ (ds : List (ℕ × NumberedFrame)) (old new : Representatives) (frame shared : ℕ) (put : IsPut old frame shared new) where

@@ -300,13 +300,16 @@ impl Handlers {
     }
 
     /// Whether the frames of all handlers that were compared, as long as their entries last, take what changed since.
-    fn take_changes<C: Classes>(&mut self, frames: &mut MethodFrames<'_, '_, '_, C>) -> Result<bool, AllocError>
+    fn take_changes<C: Classes>(&self, frames: &mut MethodFrames<'_, '_, '_, C>) -> bool
+        requires { (es : List ExceptionEntry) × (at : ℕ) × Follows frames.old es at self.now }
+        ensures same { frames.new ≡ frames.old }
+        ensures taken { let x = frames.old in IsTrue result → (es : List ExceptionEntry) (at : ℕ)
+            → Follows x es at self.now → AreBegunTaken x at self.now }
     {
         if self.representatives.is_empty() {
-            return Ok(true);
+            return true;
         }
-        if frames.flag() != self.flag { return Ok(false); }
-        self.representatives.take_changes(frames)
+        frames.flag() == self.flag && self.representatives.take_changes(frames)
     }
 
     /// Whether the frame comes to the handlers of all entries that were compared and have not ended, by what changed
@@ -317,6 +320,7 @@ impl Handlers {
         frames: &mut MethodFrames<'_, '_, '_, C>,
     ) -> Result<bool, AllocError>
         requires { (es : List ExceptionEntry) × Follows frames.old es at self.old }
+        ensures same { frames.new ≡ frames.old }
         ensures followed { let x = frames.old in (es : List ExceptionEntry) → Follows x es at self.old
             → OnOk result (Follows x es at self.new) }
         ensures ahead { AreAhead at self.old → OnOk result (AreAhead at self.new) }
@@ -324,11 +328,11 @@ impl Handlers {
             → IfOk result (λ taken. IsTrue taken → AreBegunTaken x at self.new) }
     {
         self.representatives.shrink(at)?;
-        if self.take_changes(frames)? {
+        if self.take_changes(frames) {
             return Ok(true);
         }
         self.representatives.drop_ended(at)?;
-        self.take_changes(frames)
+        Ok(self.take_changes(frames))
     }
 
     /// Keeps the locals of the running frame, with which the handlers of these entries were compared.

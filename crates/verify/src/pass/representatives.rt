@@ -1,14 +1,12 @@
 //! Declared frames that stand for others, since they have the same locals (JVMS 4.10.1.6).
-ghost use Rattle.std.specs.Prelude.{◌≡◌, ◌⊎◌, ◌≤◌, ◌<◌, ℕ, false, [], List, length, slice_index, IsTrue, IfSome, OnOk};
+ghost use Rattle.std.specs.Prelude.{◌≡◌, ◌⊎◌, ◌≤◌, ◌<◌, ℕ, false, [], List, length, slice_get, slice_index, Some, IsTrue, IfSome, OnOk};
 ghost use Rattle.method_frames.specs.NumberedFrames.{NumberedFrame};
 ghost use Rattle.type_numbers.specs.Numbers.{IsGiven};
 ghost use Rattle.verify.specs.private.pass.Representatives.{SharesBelow, TakesLocal, TakesChanges, AllTake, AreRepresentatives, IsPut};
 
-use hierarchy::{Answer, Classes};
+use hierarchy::Classes;
 use method_frames::MethodFrames;
 use std::alloc::{AllocError, Global};
-use std::collections::BTreeMap;
-use std::ops::Range;
 
 /// A declared frame that stands for all with the same locals.
 #[derive(Clone, Copy, Debug)]
@@ -18,6 +16,9 @@ pub struct Representative {
     /// How many locals, from 0 up, it is known to share with the representative before it.
     pub shared: usize,
 }
+
+/// Where more local variables changed than these, each representative is compared as a whole.
+const FEW_CHANGES: usize = 4;
 
 /// Makes room for so many declared frames.
 fn reach(count: usize, until: &mut Vec<u16>) -> Result<(), AllocError>
@@ -50,6 +51,26 @@ fn shared_with<C: Classes>(
     }
 }
 
+/// Whether a frame takes a type as this local variable. It is not asked where it shares the variable with the frame
+/// before it, unless it is the first one.
+fn takes_local<C: Classes>(
+    first: bool,
+    one: &Representative,
+    place: usize,
+    number: u32,
+    frames: &MethodFrames<'_, '_, '_, C>,
+) -> bool
+    requires given { IsGiven frames.now.types number }
+    requires frame { one.now.frame < length frames.now.declared }
+    ensures { let x = frames.now in IsTrue result → TakesLocal x.types x.declared one.now.frame place number
+        ⊎ ((first ≡ false) × (place < one.now.shared)) }
+{
+    if !first && place < one.shared {
+        return true;
+    }
+    frames.takes(one.frame, place, number)
+}
+
 /// Frames that stand for those of exception handlers, as long as an entry with such a handler may cover an instruction.
 #[derive(Drop)]
 pub struct Representatives {
@@ -63,8 +84,6 @@ pub struct Representatives {
     left: usize,
     // Room for the list while it is gone through.
     moved: Vec<Representative>,
-    // By a local variable and the number of a type, how many from the first one on took it.
-    taken: BTreeMap<u64, usize>,
 }
 
 impl Representatives {
@@ -78,7 +97,6 @@ impl Representatives {
             common: usize::MAX,
             left: 0,
             moved: Vec::new(alloc),
-            taken: BTreeMap::new(alloc),
         }
     }
 
@@ -136,80 +154,61 @@ impl Representatives {
         if place < self.common { all.min(1) } else { all }
     }
 
-    /// Whether the frames of those in a range take a type as this local variable.
-    fn they_take<C: Classes>(
+    /// Whether the frame of each takes a type as this local variable. One that shares the variable with the frame
+    /// before it is not asked.
+    fn all_take<C: Classes>(
         &self,
-        range: Range<usize>,
         place: usize,
         number: u32,
         frames: &MethodFrames<'_, '_, '_, C>,
-    ) -> bool {
-        let mut taken = None;
-        for i in range {
-            let one = &self.list[i];
-            if i > 0 && place < one.shared {
-                continue;
-            }
-            let wanted = frames.declared_local(one.frame, place);
-            if taken == Some(wanted) {
-                continue;
-            }
-            if !matches!(frames.types().assignable(number, wanted), Answer::Yes) {
+    ) -> bool
+        requires given { IsGiven frames.now.types number }
+        requires representatives { AreRepresentatives frames.now.declared self.now }
+        ensures { IsTrue result → AllTake frames.now self.now.list.items place number }
+    {
+        for i in 0..self.asked(place) {
+            if !takes_local(i == 0, &self.list[i], place, number, frames) {
                 return false;
             }
-            taken = Some(wanted);
         }
         true
     }
 
-    /// Whether the frame of each takes a type as this local variable. One that shares the variable with the frame
-    /// before it is not asked.
-    fn all_take<C: Classes>(
-        &mut self,
-        place: usize,
-        number: u32,
-        frames: &MethodFrames<'_, '_, '_, C>,
-    ) -> Result<bool, AllocError> {
-        let asked = self.asked(place);
-        if asked <= 8 {
-            return Ok(self.they_take(0..asked, place, number, frames));
-        }
-        let key = place as u64 * 0x1_0000_0000 + u64::from(number);
-        let known = self.taken.get(&key).copied().unwrap_or(0);
-        if known >= asked {
-            return Ok(true);
-        }
-        if !self.they_take(known..asked, place, number, frames) {
-            return Ok(false);
-        }
-        self.taken.insert(key, asked)?;
-        Ok(true)
-    }
-
-    /// Whether each local variable of the running frame that is not as it was kept may stand for that of the frame of
-    /// each.
-    pub fn take_changes<C: Classes>(&mut self, frames: &mut MethodFrames<'_, '_, '_, C>) -> Result<bool, AllocError> {
-        let mut from = 0;
-        let mut count = 0;
-        while let Some(place) = frames.first_changed(from) {
-            if count >= 4 {
-                return Ok(self.take_frame(frames));
-            }
-            if !self.all_take(place, frames.local(place), frames)? {
-                return Ok(false);
-            }
-            from = place + 1;
-            count += 1;
-        }
-        Ok(true)
-    }
-
-    fn take_frame<C: Classes>(&self, frames: &mut MethodFrames<'_, '_, '_, C>) -> bool {
-        let count = if frames.first_changed(self.common).is_none() { self.list.len().min(1) } else { self.list.len() };
-        for i in 0..count {
+    /// Whether the frame of each takes all local variables of the running frame.
+    fn all_take_frame<C: Classes>(&self, frames: &mut MethodFrames<'_, '_, '_, C>) -> bool
+        requires representatives { AreRepresentatives frames.old.declared self.now }
+        ensures same { frames.new ≡ frames.old }
+        ensures taken { let x = frames.old in IsTrue result → (k : ℕ) (r : Representative)
+            → slice_get self.now.list.items k ≡ Some r → TakesChanges x r.frame (length x.running.locals) }
+    {
+        for i in 0..self.list.len() {
             if !frames.takes_locals(self.list[i].frame) {
                 return false;
             }
+        }
+        true
+    }
+
+    /// Whether each local variable of the running frame that is not as it was kept may stand for that of the frame of
+    /// each. Where many changed, the frames are compared as a whole, which takes time for blocks of local variables and
+    /// not for each of them.
+    pub fn take_changes<C: Classes>(&self, frames: &mut MethodFrames<'_, '_, '_, C>) -> bool
+        requires representatives { AreRepresentatives frames.old.declared self.now }
+        ensures same { frames.new ≡ frames.old }
+        ensures taken { let x = frames.old in IsTrue result → (f : ℕ) → 0 < slice_index self.now.until.items f
+            → TakesChanges x f (length x.running.locals) }
+        ensures even { IsTrue result → length frames.old.kept ≡ length frames.old.running.locals }
+    {
+        let (mut from, mut left) = (0, FEW_CHANGES);
+        while let Some(place) = frames.first_changed(from) {
+            if left == 0 {
+                return self.all_take_frame(frames);
+            }
+            if !self.all_take(place, frames.local(place), frames) {
+                return false;
+            }
+            from = place + 1;
+            left -= 1;
         }
         true
     }
@@ -224,7 +223,6 @@ impl Representatives {
     {
         self.moved.clear();
         self.moved.append(&mut self.list)?;
-        self.taken.clear();
         self.common = usize::MAX;
         let mut shared = usize::MAX;
         for i in 0..self.moved.len() {

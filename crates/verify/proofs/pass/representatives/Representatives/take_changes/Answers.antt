@@ -11,6 +11,7 @@ loop-place-preserved g c =
     let first = c.in-Some.ensures.first in
     let inside = first.1 in
     record {
+      same = c.loop-place.invariant.same;
       within = omega (arith, inside);
       taken =
           changes_more x rs c.loop-place.from c.loop-place.invariant.taken place first.3
