@@ -121,8 +121,9 @@ class Chains:
             while name and name not in seen:
                 seen.add(name)
                 file = self.path.find(name)
-                files += [file] if file and file not in self.each.told else []
-                name = self.each.above(file) if file else None
+                is_told = file in self.each.told
+                files += [file] if file and not is_told else []
+                name = self.each.above(file) if file and (not is_told or self.each.told[file][0] == name) else None
         self.each.ask(files, [])
 
     def line(self, name):
