@@ -10,7 +10,7 @@ from judging import ARRAY_INTERFACES, Head, call, holds_another, missing_in, onl
 from output import Refused, escaped, printable, unescaped
 
 OBJECT = "java/lang/Object"
-LEFT_OUT = "class refused 80"
+LEFT_OUT, WRONG_INTERFACE = "class refused 80", "hierarchy refused 44 "
 NO_OBJECT, TOO_MANY = "hierarchy refused 43\n", "hierarchy refused 45\n"
 # The class java/lang/Object without members, in version 52: with it `verify-each` says of files that none of them is well formed, where no place has Object.
 STAND_IN = b"\xca\xfe\xba\xbe\0\0\0\x34\0\3\7\0\2\1\0\x10java/lang/Object\0\x21\0\1" + bytes(10)
@@ -127,23 +127,30 @@ class Chains:
         self.each.ask(files, [])
 
     def line(self, name):
-        """The line of `verify` on the class of this name (40 to 44): the same for all classes of a chain, but for those that are a cycle."""
-        chain, line = {}, None
-        while line is None:
-            if name in chain:
-                self.lines |= {it: f"hierarchy refused 41 {escaped(it)}" for it in list(chain)[list(chain).index(name) :]}
-            if name in self.lines:
-                line = self.lines[name]
-            elif name == OBJECT:
-                line = next((f"hierarchy refused 44 {it}" for it in chain if it in ARRAY_INTERFACES), LEFT_OUT)
+        """The line of `verify` on the class of this name (40 to 44)."""
+        chain, at = {}, name
+        while at not in self.lines and at != OBJECT:
+            if at in chain:
+                cycle = list(chain)[list(chain).index(at) :]
+                self.lines |= {it: f"hierarchy refused 41 {escaped(it)}" for it in cycle}
+                break
+            chain[at] = self.above(at)
+            lacking = self.lacking(chain[at])
+            if lacking:
+                self.lines[at] = f"hierarchy refused 42 {escaped(at)}: {lacking}"
             else:
-                chain[name] = self.each.above(self.path.find(name))
-                lacking = self.lacking(chain[name])
-                line = f"hierarchy refused 42 {escaped(name)}: {lacking}" if lacking else None
-                name = chain[name]
-        for it in chain:
-            self.lines.setdefault(it, line)
+                at = chain[at]
+        line = self.lines.get(at, LEFT_OUT)
+        for it in reversed(chain):
+            # A chain that lacks nothing has an interface of arrays that is a class; the lowest is named.
+            if it in ARRAY_INTERFACES and line.startswith((LEFT_OUT, WRONG_INTERFACE)):
+                line = f"{WRONG_INTERFACE}{it}"
+            line = self.lines.setdefault(it, line)
         return line
+
+    def above(self, name):
+        """The name of the superclass of the class of this name."""
+        return self.each.above(self.path.find(name))
 
     def lacking(self, name):
         """Why no class loader finds the class of this name; nothing where it finds it."""
