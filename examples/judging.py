@@ -38,7 +38,7 @@ MISSING = re.compile(r" refused 77 at \d+ missing (.*)$")
 REFUSED = re.compile(r"method .* refused (\d+) at \d+(?: missing .*| fault \d+)?$")
 WHOLE = re.compile(r"(?:class|hierarchy) refused (\d+)\b")
 LACKING = re.compile(r"hierarchy refused 42 .*: (.*) is in no place")
-# The refusals that say that something was not judged: a version that is too new, a class that is missing, an instruction without a rule.
+# The refusals that say that something was not judged: a version that is not judged, a class that is missing, an instruction without a rule.
 NOT_JUDGED = (11, 42, 60, 77)
 # The status of answers in which nothing else is refused.
 WITHOUT_VERDICT = 3
@@ -102,6 +102,12 @@ def refuses(line):
     """Whether a line of an answer refuses something."""
     is_verdict = line.startswith("method ") and line.endswith((" verified", " no code"))
     return not is_verdict or " refused " in line and REFUSED.fullmatch(line) is not None
+
+
+def opened(line, files):
+    """A line on standard error, with the name of the file after its number."""
+    it = re.fullmatch(r"file (\d+) cannot be opened", line)
+    return f"{line}: {escaped(files[int(it[1]) - 1])}" if it else printable(line)
 
 
 def holds_another(name):
@@ -182,7 +188,7 @@ class Verifier:
         files = [file, *files.values()]
         told = [f"{it}: {lacking}" if it.startswith("hierarchy refused 42 ") and lacking else it for it in lines]
         told = self.with_explanations(told, files) if self.explains else told
-        return "\n".join([*told, *(self.opened(it, files) for it in errors)]), status
+        return "\n".join([*told, *(opened(it, files) for it in errors)]), status
 
     def with_explanations(self, lines, files):
         """The lines, and below each that refuses what `explain` says of it, by these files."""
@@ -195,17 +201,12 @@ class Verifier:
         said = iter(said)
         return [it for line in lines for it in (line, *(next(said, []) if refuses(line) else []))]
 
-    @staticmethod
-    def opened(line, files):
-        """The line, with the name of the file after its number."""
-        it = re.fullmatch(r"file (\d+) cannot be opened", line)
-        return f"{line}: {escaped(files[int(it[1]) - 1])}" if it else printable(line)
-
 
 class Count:
-    """Counts of the methods and classes by their answers."""
+    """Counts of the methods and classes by their answers. `needs` has the class that is needed for one that a place has and that is left out."""
 
-    def __init__(self):
+    def __init__(self, needs=None):
+        self.needs = needs or {}
         self.verified = self.no_code = self.classes = self.whole = self.status = 0
         self.refused, self.methods_left, self.classes_left, self.needed = (collections.Counter() for _ in range(4))
 
@@ -237,7 +238,8 @@ class Count:
         if number in NOT_JUDGED:
             (self.methods_left if method else self.classes_left)[number] += 1
             lacking = LACKING.fullmatch(line)
-            self.needed.update([lacking[1]] if lacking else map(escaped, missing_in([line])) if number == 77 else [])
+            names = [lacking[1]] if lacking else map(escaped, missing_in([line])) if number == 77 else []
+            self.needed.update(self.needs.get(it, it) for it in names)
         elif method:
             self.refused[number] += 1
         else:

@@ -6,15 +6,14 @@ left out here too where its file holds a class of another name, since no class l
 import tempfile
 
 from folders import class_names, contents, names_in
-from judging import ARRAY_INTERFACES, Head, call, holds_another, missing_in, only_judged, refuses
-from output import Refused, escaped, printable, unescaped
+from judging import ARRAY_INTERFACES, Head, call, holds_another, missing_in, only_judged, opened, refuses
+from output import Refused, escaped, unescaped
 
 OBJECT = "java/lang/Object"
 LEFT_OUT, WRONG_INTERFACE = "class refused 80", "hierarchy refused 44 "
 NO_OBJECT, TOO_MANY = "hierarchy refused 43\n", "hierarchy refused 45\n"
 # The class java/lang/Object without members, in version 52: with it `verify-each` says of files that none of them is well formed, where no place has Object.
 STAND_IN = b"\xca\xfe\xba\xbe\0\0\0\x34\0\3\7\0\2\1\0\x10java/lang/Object\0\x21\0\1" + bytes(10)
-TOO_LARGE = "one process does not judge so much: --processes judges each class in a process of its own"
 
 
 class EachVerifier:
@@ -46,10 +45,11 @@ class EachVerifier:
         if text == NO_OBJECT:
             self.ask(files, [*known, self.object_file()])
             return False
+        if text == TOO_MANY:
+            raise Refused("one process judges 65,535 classes at most: --processes judges each in a process of its own")
         answers = f"\n{text}".split("\nfile ")[1:]
         if errors or len(answers) != len(files):
-            why = "; ".join(map(printable, errors)) or text.strip() or f"status {status}"
-            raise Refused(TOO_LARGE if text == TOO_MANY else f"{why}: {TOO_LARGE}")
+            raise Refused("; ".join(opened(it, [*files, *known]) for it in errors) or f"the program ended with status {status}")
         for file, answer in zip(files, answers):
             head, _, lines = answer.removesuffix("\n").partition("\n")
             name = head.partition(" ")[2]

@@ -57,6 +57,12 @@ class Parser(argparse.ArgumentParser):
         self.exit(2, f"{escaped(self.prog)}: error: {escaped(message)}\n")
 
 
+def say(line):
+    """Prints a line on standard error, where there is such."""
+    if sys.stderr:
+        print(line, file=sys.stderr)
+
+
 def run(main):
     """Ends with the status of `main`: with 2 where the answer cannot be written, and without a word where a closed pipe is why."""
     try:
@@ -68,10 +74,10 @@ def run(main):
     except KeyboardInterrupt:
         status = 130
     except Refused as why:
-        print(why, file=sys.stderr)
+        say(why)
         status = 2
     except OSError as why:
-        print(f"no answer: {reason(why)}", file=sys.stderr)
+        say(f"no answer: {reason(why)}")
         status = 2
     give_up_output()
     sys.exit(status)
