@@ -10,6 +10,8 @@ MOST = 16777217
 UNNAMED = ["java/io/Serializable", *(f"java/lang/{it}" for it in ("Class", "Cloneable", "Object", "String", "Throwable", "invoke/MethodHandle", "invoke/MethodType"))]
 # The bytes of each constant with its tag; a text (1) has three, and as many more as its length says.
 SIZES = {3: 5, 4: 5, 5: 9, 6: 9, 7: 3, 8: 3, 9: 5, 10: 5, 11: 5, 12: 5, 15: 4, 16: 3, 17: 5, 18: 5, 19: 3, 20: 3}
+# What bytes that are no class file lead to.
+FAULTS = (IndexError, KeyError, TypeError, UnicodeDecodeError)
 # The names of packages that are looked for.
 NAME = re.compile(r"[\w$]+", re.ASCII)
 
@@ -85,14 +87,17 @@ def class_names(data):
         places, at = constants(data)
         named = [places[data[it] << 8 | data[it + 1]] for it in (at + 2, at + 4)]
         return tuple(text_at(data, places[data[it + 1] << 8 | data[it + 2]]) if it else None for it in named)
-    except (IndexError, KeyError, TypeError, UnicodeDecodeError):
+    except FAULTS:
         return None, None
 
 
 def names_in(data):
-    """The names of classes that the constants of a class file may hold: each text, and those in it that stand as in a descriptor."""
-    places, _ = constants(data)
-    texts = {text_at(data, at) for at in places if at and data[at] == 1}
+    """The names of classes that the constants of a class file may hold: each text, and those in it that stand as in a descriptor; none of other bytes."""
+    try:
+        places, _ = constants(data)
+        texts = {text_at(data, at) for at in places if at and data[at] == 1}
+    except FAULTS:
+        return set()
     return texts | {part.partition("L")[2] for text in texts for part in text.split(";")[:-1]}
 
 
