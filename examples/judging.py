@@ -37,7 +37,7 @@ ARRAY_INTERFACES = ("java/lang/Cloneable", "java/io/Serializable")
 MISSING = re.compile(r" refused 77 at \d+ missing (.*)$")
 REFUSED = re.compile(r"method .* refused (\d+) at \d+(?: missing .*| fault \d+)?$")
 WHOLE = re.compile(r"(?:class|hierarchy) refused (\d+)\b")
-LACKING = re.compile(r"hierarchy refused 42 .*: (.*) is in no place")
+SUPER_MISSING, NOWHERE = "hierarchy refused 42 ", " is in no place"
 # The refusals that say that something was not judged: a version that is not judged, a class that is missing, an instruction without a rule.
 NOT_JUDGED = (11, 42, 60, 77)
 # The status of answers in which nothing else is refused.
@@ -91,6 +91,12 @@ def begin(words, errors):
 def missing_in(lines):
     """The names of the classes that these lines miss."""
     return [unescaped(it[1]) for it in (MISSING.search(line) for line in lines if " missing " in line) if it]
+
+
+def lacking_in(line):
+    """The name of the superclass that is in no place, as this line of a class has it, or None."""
+    is_nowhere = line.startswith(SUPER_MISSING) and line.endswith(NOWHERE)
+    return line.removesuffix(NOWHERE).rpartition(": ")[2] if is_nowhere else None
 
 
 def only_judged(text):
@@ -162,7 +168,7 @@ class Verifier:
         while wanted and wanted not in seen:
             file = path.find(wanted)
             if file is None:
-                return files, f"{escaped(wanted)} is in no place"
+                return files, f"{escaped(wanted)}{NOWHERE}"
             lacking = self.head(file).lacks(wanted)
             if lacking or wanted in files:
                 return files, lacking or "a cycle"
@@ -176,17 +182,18 @@ class Verifier:
         if wanted and head.name not in (None, wanted):
             return holds_another(head.name), 1
         files, lacking = self.chain(head.above, path, {head.name})
-        count, rounds = -1, 0
+        seen, count, rounds = {head.name, *files}, -1, 0
         while count != len(files):
             count, rounds = len(files), rounds + 1
             text, errors, status = call("verify", *self.flags, "--", file, *files.values())
             lines = text.splitlines()
             for name in missing_in(lines) if rounds < ROUNDS else names_in(contents(file)):
-                more, absent = self.chain(name, path, {head.name, *files})
+                more, absent = self.chain(name, path, seen)
                 if not absent and not any(self.head(it).is_array_class() for it in more.values()):
-                    files |= more
+                    files.update(more)
+                    seen.update(more)
         files = [file, *files.values()]
-        told = [f"{it}: {lacking}" if it.startswith("hierarchy refused 42 ") and lacking else it for it in lines]
+        told = [f"{it}: {lacking}" if it.startswith(SUPER_MISSING) and lacking else it for it in lines]
         told = self.with_explanations(told, files) if self.explains else told
         return "\n".join([*told, *(opened(it, files) for it in errors)]), status
 
@@ -237,8 +244,8 @@ class Count:
         number = int((method or whole or [0, 0])[1])
         if number in NOT_JUDGED:
             (self.methods_left if method else self.classes_left)[number] += 1
-            lacking = LACKING.fullmatch(line)
-            names = [lacking[1]] if lacking else map(escaped, missing_in([line])) if number == 77 else []
+            lacking = lacking_in(line)
+            names = [lacking] if lacking else map(escaped, missing_in([line])) if number == 77 else []
             self.needed.update(self.needs.get(it, it) for it in names)
         elif method:
             self.refused[number] += 1

@@ -6,7 +6,7 @@ left out here too where its file holds a class of another name, since no class l
 import tempfile
 
 from folders import class_names, contents, names_in
-from judging import ARRAY_INTERFACES, Head, call, holds_another, missing_in, only_judged, opened, refuses
+from judging import ARRAY_INTERFACES, NOWHERE, SUPER_MISSING, Head, call, holds_another, missing_in, only_judged, opened, refuses
 from output import Refused, escaped, unescaped
 
 OBJECT = "java/lang/Object"
@@ -137,7 +137,7 @@ class Chains:
             chain[at] = self.above(at)
             lacking = self.lacking(chain[at])
             if lacking:
-                self.lines[at] = f"hierarchy refused 42 {escaped(at)}: {lacking}"
+                self.lines[at] = f"{SUPER_MISSING}{escaped(at)}: {lacking}"
             else:
                 at = chain[at]
         line = self.lines.get(at, LEFT_OUT)
@@ -156,6 +156,6 @@ class Chains:
         """Why no class loader finds the class of this name; nothing where it finds it."""
         file = self.path.find(name)
         if file is None:
-            return f"{escaped(name)} is in no place"
+            return f"{escaped(name)}{NOWHERE}"
         told, text = self.each.told[file]
         return Head(told, None, True, text.removeprefix("class ")).lacks(name)
