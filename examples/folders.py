@@ -2,10 +2,16 @@
 import os
 import re
 
+from output import Refused, escaped, joined, reason
+
+# A class file has 16,777,216 bytes at most, so no more is read of a file than tells that it has more.
+MOST = 16777217
 # The classes that a class may need without naming them.
 UNNAMED = ["java/io/Serializable", *(f"java/lang/{it}" for it in ("Class", "Cloneable", "Object", "String", "Throwable", "invoke/MethodHandle", "invoke/MethodType"))]
 # The bytes of each constant with its tag; a text (1) has three, and as many more as its length says.
 SIZES = {3: 5, 4: 5, 5: 9, 6: 9, 7: 3, 8: 3, 9: 5, 10: 5, 11: 5, 12: 5, 15: 4, 16: 3, 17: 5, 18: 5, 19: 3, 20: 3}
+# What bytes that are no class file lead to.
+FAULTS = (IndexError, KeyError, TypeError, UnicodeDecodeError)
 # The names of packages that are looked for.
 NAME = re.compile(r"[\w$]+", re.ASCII)
 
@@ -15,6 +21,11 @@ class Folder:
 
     def __init__(self, path):
         self.path = path
+        try:
+            os.scandir(path).close()
+        except OSError as why:
+            wanted = "a folder with class files by their names, as java/lang/Object.class, is expected"
+            raise Refused(f"{escaped(path)}: {reason(why)}: {wanted}") from why
 
     def find(self, name):
         file = os.path.join(self.path, *name.split("/")) + ".class"
@@ -37,32 +48,64 @@ def entries(path):
         return []
 
 
-def superclass(data):
-    """The name of the superclass in the bytes of a class file; None where there is none, or the bytes are no class file."""
+def contents(file):
+    """The bytes of a class file."""
     try:
-        at, number, count = 10, 1, data[8] << 8 | data[9]
-        places = [None] * (count + 1)
-        while number < count:
-            places[number] = at
-            tag = data[at]
-            if tag == 1:
-                at += 3 + (data[at + 1] << 8 | data[at + 2])
-            else:
-                at += SIZES[tag]
-                number += tag in (5, 6)
-            number += 1
-        named = places[data[at + 4] << 8 | data[at + 5]]
-        text = places[data[named + 1] << 8 | data[named + 2]]
-        return data[text + 3 : text + 3 + (data[text + 1] << 8 | data[text + 2])].decode()
-    except (IndexError, KeyError, TypeError, UnicodeDecodeError):
-        return None
+        with open(file, "rb", buffering=0) as it:
+            return it.read(min(os.fstat(it.fileno()).st_size, MOST))
+    except OSError as why:
+        raise Refused(f"{escaped(file)} cannot be read: {reason(why)}") from why
+
+
+def constants(data):
+    """The places of the constants of a class file by their indices, None for the second index of a long one, and the place after the last."""
+    at, number, count = 10, 1, data[8] << 8 | data[9]
+    places = [None] * (count + 1)
+    while number < count:
+        places[number] = at
+        tag = data[at]
+        if tag == 1:
+            at += 3 + (data[at + 1] << 8 | data[at + 2])
+        else:
+            at += SIZES[tag]
+            number += tag in (5, 6)
+        number += 1
+    return places, at
+
+
+def text_at(data, at):
+    """The text of a constant in modified UTF-8 (JVMS 4.4.7)."""
+    text = data[at + 3 : at + 3 + (data[at + 1] << 8 | data[at + 2])]
+    if text.isascii():
+        return text.decode("ascii")
+    return joined(text.replace(b"\xc0\x80", b"\0").decode("utf-8", "surrogatepass"))
+
+
+def class_names(data):
+    """The names of the class and of its superclass in the bytes of a class file; None for what is not there, and where the bytes are no class file."""
+    try:
+        places, at = constants(data)
+        named = [places[data[it] << 8 | data[it + 1]] for it in (at + 2, at + 4)]
+        return tuple(text_at(data, places[data[it + 1] << 8 | data[it + 2]]) if it else None for it in named)
+    except FAULTS:
+        return None, None
+
+
+def names_in(data):
+    """The names of classes that the constants of a class file may hold: each text, and those in it that stand as in a descriptor; none of other bytes."""
+    try:
+        places, _ = constants(data)
+        texts = {text_at(data, at) for at in places if at and data[at] == 1}
+    except FAULTS:
+        return set()
+    return texts | {part.partition("L")[2] for text in texts for part in text.split(";")[:-1]}
 
 
 class Known:
     """The classes of folders: each package is listed once, and `files` has those whose names were added, with the classes above them."""
 
     def __init__(self, folders):
-        self.paths, self.packages, self.files = [os.path.abspath(it.path) for it in folders], {}, {}
+        self.paths, self.packages, self.files, self.seen = [os.path.abspath(it.path) for it in folders], {}, {}, set()
         beginnings = sorted({re.escape(name) for it in folders for name in it.beginnings()}, key=len, reverse=True)
         # A pattern that begins with a text is found faster than one of several, where they are few.
         groups = beginnings if len(beginnings) <= 8 else [f"(?:{'|'.join(beginnings)})"]
@@ -84,12 +127,14 @@ class Known:
         return {name for it in self.patterns for name in it.findall(data)}
 
     def add(self, names):
-        """Adds the classes of these names that the folders have, and those above them."""
+        """Adds the classes of these names that the folders have, and those above them; none whose file holds a class of another name."""
         wanted = [*names]
         while wanted:
             name = wanted.pop()
-            file = None if name in self.files else self.find(name)
+            file = None if name in self.seen else self.find(name)
             if file:
-                self.files[name] = file
-                with open(file, "rb", buffering=0) as it:
-                    wanted.append(superclass(it.read()) or UNNAMED[0])
+                self.seen.add(name)
+                own, above = class_names(contents(file))
+                wanted.append(above or UNNAMED[0])
+                if own == name:
+                    self.files[name] = file

@@ -4,36 +4,27 @@ import contextlib
 import io
 import os
 import re
+import stat
+import struct
 import tempfile
 import zipfile
 import zlib
 
-# A class file has 16,777,216 bytes at most, so no more of an entry is unpacked than tells that it has more.
-MOST = 16777217
-# The most bytes that the classes of a jar may have, and that a jar within it may have.
+from folders import MOST
+from output import Refused, escaped, reason
+
+# The most bytes that the classes of all jars may have, and that a jar within another may have.
 MOST_CLASSES, MOST_NESTED = 1 << 32, 1 << 28
-# For so many bytes it is worth starting a process that unpacks them; in so many, or in one class, names are searched for at once.
-PART, PIECE = 1 << 19, 1 << 18
+# For so many bytes it is worth starting a process that unpacks them, and for so many of a jar within another; in so many, or in one class, names
+# are searched for at once.
+PART, NESTED_PART, PIECE = 1 << 19, 1 << 24, 1 << 18
 # A file system in memory, whose files cost less than those of a disk.
 MEMORY = "/dev/shm"
-VERSION = re.compile(r"META-INF/versions/(\d+)/(.+)")
+# A virtual machine looks for the versions from 9 on alone, by their numbers without a 0 in front.
+VERSION = re.compile(r"META-INF/versions/(9|[1-9][0-9]{1,8})/(.+)", re.DOTALL)
 ROOTS = ("BOOT-INF/classes/", "WEB-INF/classes/")
 # The errors of `zipfile` for a jar that is damaged, or stored in a way that it does not know.
-FAULTS = (OSError, ValueError, EOFError, RuntimeError, zipfile.BadZipFile, zlib.error)
-
-
-class Refused(Exception):
-    """Why a jar cannot be judged."""
-
-
-class Classes:
-    """The classes of a jar as those of one version find them."""
-
-    def __init__(self, files, versions):
-        self.files, self.versions = files, versions
-
-    def find(self, name):
-        return next(filter(None, (self.files.get((it, name)) for it in self.versions)), None)
+FAULTS = (OSError, ValueError, EOFError, RuntimeError, OverflowError, struct.error, zipfile.BadZipFile, zlib.error)
 
 
 def in_memory(size):
@@ -46,30 +37,49 @@ def in_memory(size):
     return MEMORY if has_room and not os.environ.get("TMPDIR") else None
 
 
+def name_of(info):
+    """The name of an entry as a virtual machine reads it: as UTF-8, whether the entry says so or not, and up to its end."""
+    name = info.orig_filename
+    if info.flag_bits & 0x800 or name.isascii():
+        return name
+    return name.encode("cp437").decode("utf-8", "surrogateescape")
+
+
 class Jar:
     """A jar, its classes in files under numbers, and the jars within it. `outer` stands in front of the names of its entries.
 
     `source` is its path, or a file in memory; `room` removes the files when it is left. The classes of the folders that the jar
-    names are known afterwards.
+    names are known afterwards. All its classes have `size` bytes, and at most `left`.
     """
 
-    def __init__(self, label, source, room, known, outer=""):
-        self.label, self.source, self.known, self.outer, self.entries, self.files = label, source, known, outer, [], {}
-        with self.told(), zipfile.ZipFile(source) as it:
-            infos = [it for it in it.infolist() if not it.filename.endswith("/")]
-        twice = [name for name, n in collections.Counter(it.filename for it in infos).items() if n > 1]
-        if twice:
-            raise Refused(f"{label} has the entry {twice[0]} twice")
-        self.nested = [it for it in infos if it.filename.endswith((".jar", ".war", ".ear"))]
-        classes = [it for it in infos if it.filename.endswith(".class") and os.path.basename(it.filename) != "module-info.class"]
-        # No more is unpacked of an entry than the table tells of it.
-        size = sum(min(it.file_size, MOST) for it in classes)
-        if size > MOST_CLASSES:
-            raise Refused(f"{label} has classes of more than {MOST_CLASSES} bytes")
+    def __init__(self, label, source, room, known, outer="", left=MOST_CLASSES):
+        self.label, self.source, self.known, self.outer, self.entries, self.files = escaped(label), source, known, outer, [], {}
         with self.told():
-            folder = room.enter_context(tempfile.TemporaryDirectory(dir=in_memory(size)))
-            work = [(it, self.add(it.filename, f"{folder}/{number}.class")) for number, it in enumerate(classes, 1)]
-            self.unpack(work, min((os.cpu_count() or 1) - 1, size // PART))
+            if isinstance(source, str) and not stat.S_ISREG(os.stat(source).st_mode):
+                raise Refused(f"{self.label} cannot be read: it is no regular file")
+            with zipfile.ZipFile(source) as it:
+                infos = {it: name_of(it) for it in it.infolist()}
+        infos = {it: name for it, name in infos.items() if not name.endswith("/")}
+        self.refuse_entries(infos)
+        self.nested = [it for it, name in infos.items() if name.endswith((".jar", ".war", ".ear"))]
+        classes = [it for it, name in infos.items() if name.endswith(".class") and os.path.basename(name) != "module-info.class"]
+        # No more is unpacked of an entry than the table tells of it.
+        self.size = sum(min(it.file_size, MOST) for it in classes)
+        if self.size > left:
+            raise Refused(f"{self.label} has classes of more than {left} bytes")
+        with self.told():
+            folder = room.enter_context(tempfile.TemporaryDirectory(dir=in_memory(self.size)))
+            work = [(it, self.add(infos[it], f"{folder}/{number}.class")) for number, it in enumerate(classes, 1)]
+            self.unpack(work, min((os.cpu_count() or 1) - 1, self.size // (NESTED_PART if outer else PART)))
+
+    def refuse_entries(self, infos):
+        """Refuses two entries of one name, and one that is packed in a way that a virtual machine does not know."""
+        twice = [name for name, n in collections.Counter(infos.values()).items() if n > 1]
+        if twice:
+            raise Refused(f"{self.label} has the entry {escaped(twice[0])} twice")
+        packed = [name for it, name in infos.items() if it.compress_type not in (zipfile.ZIP_STORED, zipfile.ZIP_DEFLATED)]
+        if packed:
+            raise Refused(f"{self.label} has the entry {escaped(packed[0])}, which is neither stored nor deflated")
 
     @contextlib.contextmanager
     def told(self):
@@ -77,15 +87,17 @@ class Jar:
         try:
             yield
         except FAULTS as why:
-            raise Refused(f"{self.label} cannot be read: {why}") from why
+            raise Refused(f"{self.label} cannot be read: {reason(why)}") from why
 
     def add(self, entry, file):
         """Adds the file of a class by its version and name, and returns it."""
         found = VERSION.fullmatch(entry)
         version, path = (int(found[1]), found[2]) if found else (0, entry)
         root = next((it for it in ROOTS if path.startswith(it)), "")
-        self.files[version, path[len(root):-len(".class")]] = file
-        self.entries.append((self.outer + entry, version, file))
+        name = path[len(root) : -len(".class")]
+        if self.files.setdefault(version, {}).setdefault(name, file) != file:
+            raise Refused(f"{self.label} has the class {escaped(name)} twice, once as {escaped(entry)}")
+        self.entries.append((escaped(self.outer + entry), version, name, file))
         return file
 
     def unpack(self, work, count):
@@ -124,17 +136,24 @@ class Jar:
             self.known.add([it[:-1].decode()])
 
     def seen_from(self, version):
-        """Its classes as those of a version see them: of one name that of the highest version up to this one."""
-        return Classes(self.files, sorted({it for it, _ in self.files if it <= version}, reverse=True))
+        """Its classes by their names as those of a version see them: of one name that of the highest version up to this one."""
+        found = {}
+        for it in sorted(it for it in self.files if it <= version):
+            found |= self.files[it]
+        return found
 
     def within(self, room):
         """The jars within it."""
+        left = MOST_CLASSES - self.size
         with self.told(), zipfile.ZipFile(self.source) as outer:
             for it in self.nested:
                 data = outer.open(it).read(MOST_NESTED + 1)
+                name = name_of(it)
                 if len(data) > MOST_NESTED:
-                    raise Refused(f"{it.filename} has more than {MOST_NESTED} bytes")
-                yield Jar(it.filename, io.BytesIO(data), room, self.known, f"{it.filename}!")
+                    raise Refused(f"{escaped(name)} has more than {MOST_NESTED} bytes")
+                jar = Jar(name, io.BytesIO(data), room, self.known, f"{name}!", left)
+                left -= jar.size
+                yield jar
 
 
 def beside(read, written, lines):

@@ -1,29 +1,47 @@
 """Verdicts on class files among folders and jars of class files, as examples/judge and examples/judge_jar give them.
 
 `Verifier` calls the program: it gives the classes above a class, and then each class that an answer misses, until no place has a missing one.
-A place is a folder with class files by their names, as java/lang/Object.class, or classes of a jar; of two with one name that in the first
-place counts. No name leads out of a place: a class whose own name or constants hold a dot is not well formed, and is refused 22.
+A place is a folder with class files by their names, as java/lang/Object.class, or classes of a jar. No name leads out of a place: a class whose own
+name or constants hold a dot is not well formed, and is refused 22.
 
-`judge_each` asks one process for many classes, among them and those of the folders that they name. It gives the answers that `judge` gives: where one
-could be another, since it misses a class that a place has, there is none.
+A class whose file is refused, or holds a class of another name, is none that a place has, and so is a class below it where it is missing: no class
+loader finds it. `verify-each` leaves out such classes in the same way, so `judging_each` gives the same answers from one process.
 """
 import collections
+import errno
 import os
 import re
+import resource
 import subprocess
 import sys
+import tempfile
 import threading
+
+from folders import contents, names_in
+from output import Refused, escaped, printable, reason, unescaped
 
 HERE = os.path.dirname(os.path.realpath(__file__))
 TOP = os.path.dirname(HERE)
 # In the repository, and where `.ci/install` puts it.
 WRAPPER, BUILT, INSTALLED = f"{TOP}/classck", f"{TOP}/crates/classck/out/classck", f"{os.path.dirname(TOP)}/bin/classck"
 PROGRAM = BUILT if os.path.isfile(WRAPPER) else INSTALLED
-HEAD = re.compile(r"class (.*) major \d+ minor \d+ flags [0-9a-f]{4}")
+# So many bytes of a process's answer are read: a method's name may stand in each of many lines, so the answer may be far longer than the file.
+MOST_OUTPUT = 1 << 28
+# After so many calls that miss a class, all classes that the judged one names are given.
+ROUNDS = 8
+# The limit of the stack at which Linux takes the longest lines that it takes at all, 6 MB.
+STACK = 1 << 25
+HEAD = re.compile(r"class (.*) major \d+ minor \d+ flags ([0-9a-f]{4})")
+INTERFACE = 0x0200
+ARRAY_INTERFACES = ("java/lang/Cloneable", "java/io/Serializable")
 MISSING = re.compile(r" refused 77 at \d+ missing (.*)$")
 REFUSED = re.compile(r"method .* refused (\d+) at \d+(?: missing .*| fault \d+)?$")
-# The status of answers in which nothing is refused but what has no rule (60).
-WITHOUT_RULE = 3
+WHOLE = re.compile(r"(?:class|hierarchy) refused (\d+)\b")
+SUPER_MISSING, NOWHERE = "hierarchy refused 42 ", " is in no place"
+# The refusals that say that something was not judged: a version that is not judged, a class that is missing, an instruction without a rule.
+NOT_JUDGED = (11, 42, 60, 77)
+# The status of answers in which nothing else is refused.
+WITHOUT_VERDICT = 3
 
 
 def begin_build():
@@ -42,20 +60,43 @@ def build():
     end_build(begin_build())
 
 
-def found(name, places):
-    """The file of the class of this name in the first place that has it, or None."""
-    return next(filter(None, (it.find(name) for it in places)), None)
+def call(*words):
+    """What the program prints on these words, the lines on standard error, and the status."""
+    with tempfile.TemporaryFile() as errors:
+        process = begin(words, errors)
+        with process.stdout as out:
+            text = out.read(MOST_OUTPUT + 1)
+        if len(text) > MOST_OUTPUT:
+            process.kill()
+        status = process.wait()
+        if len(text) > MOST_OUTPUT:
+            raise Refused(f"an answer has more than {MOST_OUTPUT} bytes")
+        errors.seek(0)
+        return text.decode(), errors.read(1 << 16).decode(errors="replace").splitlines(), status
 
 
-def fits(words):
-    """Whether these words can be passed to a process: they, the environment and a pointer to each have to fit."""
-    given = [*words, *(f"{name}={value}" for name, value in os.environ.items())]
-    return sum(len(os.fsencode(it)) + 9 for it in given) + 4096 < os.sysconf("SC_ARG_MAX")
+def begin(words, errors):
+    """The program's process on these words. Where they are too long for a process, the limit that goes by that of the stack is raised."""
+    for is_last in (False, True):
+        try:
+            return subprocess.Popen([PROGRAM, *words], stdout=subprocess.PIPE, stderr=errors)
+        except OSError as why:
+            if why.errno != errno.E2BIG or is_last:
+                raise Refused(f"{escaped(PROGRAM)} cannot be called with {len(words)} words: {reason(why)}") from why
+        hard = resource.getrlimit(resource.RLIMIT_STACK)[1]
+        resource.setrlimit(resource.RLIMIT_STACK, (STACK if hard == resource.RLIM_INFINITY else min(STACK, hard), hard))
+    return None
 
 
 def missing_in(lines):
     """The names of the classes that these lines miss."""
-    return [it[1] for it in (MISSING.search(line) for line in lines if " missing " in line) if it]
+    return [unescaped(it[1]) for it in (MISSING.search(line) for line in lines if " missing " in line) if it]
+
+
+def lacking_in(line):
+    """The name of the superclass that is in no place, as this line of a class has it, or None."""
+    is_nowhere = line.startswith(SUPER_MISSING) and line.endswith(NOWHERE)
+    return line.removesuffix(NOWHERE).rpartition(": ")[2] if is_nowhere else None
 
 
 def only_judged(text):
@@ -63,144 +104,163 @@ def only_judged(text):
     return " refused " not in text and text.startswith("method ") and text.count("\nmethod ") == text.count("\n")
 
 
-class Verifier:
-    """Calls the program, with --dynamic where that is asked for, and keeps what `show` said of the names of a class and its superclass."""
+def refuses(line):
+    """Whether a line of an answer refuses something."""
+    is_verdict = line.startswith("method ") and line.endswith((" verified", " no code"))
+    return not is_verdict or " refused " in line and REFUSED.fullmatch(line) is not None
 
-    def __init__(self, dynamic=False):
-        self.known, self.lock = {}, threading.Lock()
+
+def opened(line, files):
+    """A line on standard error, with the name of the file after its number."""
+    it = re.fullmatch(r"file (\d+) cannot be opened", line)
+    return f"{line}: {escaped(files[int(it[1]) - 1])}" if it else printable(line)
+
+
+def holds_another(name):
+    """The line of a file that should hold another class than the one of this name."""
+    return f"holds the class {escaped(name)}"
+
+
+class Head(collections.namedtuple("Head", "name above is_interface refusal")):
+    """What `show` says of a class: its name, that of its superclass, and whether it is an interface; or why it is refused."""
+
+    def lacks(self, wanted):
+        """Why no class loader finds the class of this name in the file; nothing where it finds it."""
+        if self.name is None:
+            return f"{escaped(wanted)} is {self.refusal}"
+        return f"the file of {escaped(wanted)} {holds_another(self.name)}" if self.name != wanted else ""
+
+    def is_array_class(self):
+        """Whether it is no interface where arrays need one (44)."""
+        return self.name in ARRAY_INTERFACES and not self.is_interface
+
+
+class Verifier:
+    """Calls the program, with --dynamic and for explanations where these are asked for, and keeps what `show` said of each file.
+
+    `told` may know that already of a file, from another process.
+    """
+
+    def __init__(self, dynamic=False, explains=False, told=lambda _: None):
+        self.heads, self.lock, self.explains, self.told = {}, threading.Lock(), explains, told
         self.flags = ["--dynamic"] if dynamic else []
 
-    @staticmethod
-    def call(*words):
-        """The lines on standard output, those on standard error, and the status."""
-        done = subprocess.run([PROGRAM, *words], stdout=subprocess.PIPE, stderr=subprocess.PIPE, check=False)
-        return done.stdout.decode().splitlines(), done.stderr.decode().splitlines(), done.returncode
-
-    def names(self, file):
-        """The names of the class and of its superclass; nothing where it is refused or has none."""
+    def head(self, file):
+        """What `show` says of the class in this file."""
         with self.lock:
-            if file in self.known:
-                return self.known[file]
-        process = subprocess.Popen([PROGRAM, "show", "--", file], stdout=subprocess.PIPE, stderr=subprocess.DEVNULL)
-        head = [process.stdout.readline().decode().rstrip("\n") for _ in range(2)]
-        process.stdout.close()
+            known = self.heads.get(file) or self.told(file)
+        if known:
+            return known
+        process = begin(["show", "--", file], subprocess.DEVNULL)
+        with process.stdout as out:
+            first, second = (out.readline().decode().rstrip("\n") for _ in range(2))
         process.wait()
-        it = HEAD.fullmatch(head[0])
-        found = (it[1], head[1][6:] if head[1] not in ("", "super none") else None) if it else (None, None)
+        it = HEAD.fullmatch(first)
+        above = unescaped(second[6:]) if second not in ("", "super none") else None
+        found = Head(unescaped(it[1]), above, bool(int(it[2], 16) & INTERFACE), "") if it else Head(None, None, False, first)
         with self.lock:
-            self.known[file] = found
+            self.heads[file] = found
         return found
 
-    def add(self, wanted, places, seen, files):
-        """Adds the class of this name and those above it, as far as a place has them."""
+    def chain(self, wanted, path, seen):
+        """The files of the class of this name and of those above it, up to one of these that were seen; and why a class loader does not find all."""
+        files = {}
         while wanted and wanted not in seen:
-            seen.add(wanted)
-            file = found(wanted, places)
+            file = path.find(wanted)
             if file is None:
-                return
-            files.append(file)
-            wanted = self.names(file)[1]
+                return files, f"{escaped(wanted)}{NOWHERE}"
+            lacking = self.head(file).lacks(wanted)
+            if lacking or wanted in files:
+                return files, lacking or "a cycle"
+            files[wanted] = file
+            wanted = self.head(file).above
+        return files, ""
 
-    def judge(self, file, places):
-        """The last answer on the class in this file, which looks for others in these places, and its status."""
-        name, above = self.names(file)
-        seen, files, count = {name}, [], -1
-        self.add(above, places, seen, files)
+    def judge(self, file, path, wanted=None):
+        """The last answer on the class in this file, of this name if it should have one, which finds others on this class path; and its status."""
+        head = self.head(file)
+        if wanted and head.name not in (None, wanted):
+            return holds_another(head.name), 1
+        files, lacking = self.chain(head.above, path, {head.name})
+        seen, count, rounds = {head.name, *files}, -1, 0
         while count != len(files):
-            count = len(files)
-            lines, errors, status = self.call("verify", *self.flags, "--", file, *files)
-            for name in missing_in(lines):
-                self.add(name, places, seen, files)
-        return "\n".join([*self.told(lines, [file, *files]), *(self.opened(it, [file, *files]) for it in errors)]), status
+            count, rounds = len(files), rounds + 1
+            text, errors, status = call("verify", *self.flags, "--", file, *files.values())
+            lines = text.splitlines()
+            for name in missing_in(lines) if rounds < ROUNDS else names_in(contents(file)):
+                more, absent = self.chain(name, path, seen)
+                if not absent and not any(self.head(it).is_array_class() for it in more.values()):
+                    files.update(more)
+                    seen.update(more)
+        files = [file, *files.values()]
+        told = [f"{it}: {lacking}" if it.startswith(SUPER_MISSING) and lacking else it for it in lines]
+        told = self.with_explanations(told, files) if self.explains else told
+        return "\n".join([*told, *(opened(it, files) for it in errors)]), status
 
-    def each(self, files, known):
-        """For each class in these files, from one process, its name and the answer; None where it gives none."""
-        words = ["verify-each", *self.flags, *(["--known", *known] if known else []), "--", *files]
-        if not fits([PROGRAM, *words]):
-            return None
-        done = subprocess.run([PROGRAM, *words], stdout=subprocess.PIPE, stderr=subprocess.PIPE, check=False)
-        answers = []
-        for told in f"\n{done.stdout.decode()}".split("\nfile ")[1:]:
-            head, _, text = told.removesuffix("\n").partition("\n")
-            answers.append((head.partition(" ")[2] or None, text))
-        return answers if not done.stderr and len(answers) == len(files) else None
-
-    def judge_each(self, files, known):
-        """The answers on the classes in these files, which have these names, each among the others and the known ones; for each file.
-
-        No answer is given on a class that a folder has as well, or that has another name: none of the others sees it. None is given where the class
-        is refused as a whole, or one of the places has a class that the answer misses: such a class is damaged, or below one that is.
-        """
-        own = {name: file for name, file in files.items() if not known.find(name)}
-        for _ in range(2):
-            answers = self.each(list(own.values()), list(known.files.values())) if own else None
-            if answers is None:
-                return {}
-            other = [name for name, (told, _) in zip(own, answers) if told not in (None, name)]
-            if not other:
-                found = ((file, text, self.settled(text, files, known)) for file, (_, text) in zip(own.values(), answers))
-                return {file: (text, status) for file, text, status in found if status is not None}
-            own = {name: file for name, file in own.items() if name not in other}
-        return {}
-
-    @staticmethod
-    def settled(text, files, known):
-        """The status of an answer that `judge` gives as well; None of one that it may not give."""
-        if only_judged(text):
-            return 0
-        lines = text.splitlines()
-        if not all(it.startswith("method ") for it in lines) or any(it in files or known.find(it) for it in missing_in(lines)):
-            return None
-        return int(any(REFUSED.fullmatch(it) for it in lines if " refused " in it))
-
-    def told(self, lines, files):
-        """The lines, with the superclass that is absent after a 42."""
-        for line in lines:
-            if line.startswith("hierarchy refused 42 "):
-                lacking = next((self.names(it)[1] for it in files if self.names(it)[0] == line[21:]), None)
-                line += f": {lacking} is in no place" if lacking else ""
-            yield line
-
-    @staticmethod
-    def opened(line, files):
-        """The line, with the name of the file after its number."""
-        it = re.fullmatch(r"file (\d+) cannot be opened", line)
-        return f"{line}: {files[int(it[1]) - 1]}" if it else line
+    def with_explanations(self, lines, files):
+        """The lines, and below each that refuses what `explain` says of it, by these files."""
+        said = []
+        for line in call("explain", *self.flags, "--", *files)[0].splitlines():
+            if line.startswith("  "):
+                said[-1].append(line)
+            else:
+                said.append([])
+        said = iter(said)
+        return [it for line in lines for it in (line, *(next(said, []) if refuses(line) else []))]
 
 
 class Count:
-    """Counts of the methods and classes by their answers."""
+    """Counts of the methods and classes by their answers. `needs` has the class that is needed for one that a place has and that is left out."""
 
-    def __init__(self):
+    def __init__(self, needs=None):
+        self.needs = needs or {}
         self.verified = self.no_code = self.classes = self.whole = self.status = 0
-        self.refused = collections.Counter()
+        self.refused, self.methods_left, self.classes_left, self.needed = (collections.Counter() for _ in range(4))
 
     def add(self, text, status):
-        """Counts the answer on a class, and gives the lines of it that refuse."""
+        """Counts the answer on a class, and gives the lines of it that refuse, and those that explain them."""
         self.classes += 1
         self.status = 2 if 2 in (status, self.status) else max(status, self.status)
         if only_judged(text):
             self.verified += f"{text}\n".count(" verified\n")
             self.no_code += f"{text}\n".count(" no code\n")
             return []
-        refusing = []
+        lines = []
         for line in text.splitlines():
-            it = REFUSED.fullmatch(line) if " refused " in line else None
-            self.verified += line.startswith("method ") and line.endswith(" verified")
-            self.no_code += line.startswith("method ") and line.endswith(" no code")
-            if it:
-                self.refused[int(it[1])] += 1
-            elif not line.startswith("method "):
-                self.whole += 1
-            if it or not line.startswith("method "):
-                refusing.append(line)
-        return refusing
+            if line.startswith("  "):
+                lines.append(line)
+            elif refuses(line):
+                self.count(line)
+                lines.append(line)
+            elif line.endswith(" verified"):
+                self.verified += 1
+            else:
+                self.no_code += 1
+        return lines
+
+    def count(self, line):
+        """Counts a refusal of a method or a class."""
+        method, whole = REFUSED.fullmatch(line), WHOLE.match(line)
+        number = int((method or whole or [0, 0])[1])
+        if number in NOT_JUDGED:
+            (self.methods_left if method else self.classes_left)[number] += 1
+            lacking = lacking_in(line)
+            names = [lacking] if lacking else map(escaped, missing_in([line])) if number == 77 else []
+            self.needed.update(self.needs.get(it, it) for it in names)
+        elif method:
+            self.refused[number] += 1
+        else:
+            self.whole += 1
 
     def __str__(self):
         numbers = "".join(f", {self.refused[it]} refused {it}" for it in sorted(self.refused))
-        return f"{self.classes} classes: {self.verified} methods verified, {self.no_code} without code{numbers}, {self.whole} classes refused"
+        left = [f"{left[it]} {what} ({it})" for what, left in (("methods", self.methods_left), ("classes", self.classes_left)) for it in sorted(left)]
+        most = [f"{name} ({n})" for name, n in sorted(self.needed.items(), key=lambda it: (-it[1], it[0]))[:5]]
+        counts = f"{self.classes} classes: {self.verified} methods verified, {self.no_code} without code{numbers}, {self.whole} classes refused"
+        return counts + (f"; not judged: {', '.join(left)}" if left else "") + (f"; needed most: {', '.join(most)}" if most else "")
 
     def end(self):
-        """The status of all: 2 where a file could not be read; 1 where something is refused; 3 where that is nothing but 60; 0 otherwise."""
-        is_rule = self.status == 1 and not self.whole and set(self.refused) == {60}
-        return WITHOUT_RULE if is_rule else self.status
+        """The status of all: 2 where a file could not be read; 1 where something is refused; 3 where all that is refused was not judged; 0 otherwise."""
+        is_left = self.methods_left or self.classes_left
+        is_refused = self.whole or self.refused or not is_left
+        return WITHOUT_VERDICT if self.status == 1 and not is_refused else self.status
