@@ -1,0 +1,149 @@
+"""Methods that initialize objects which very many locals hold, and that frames bring back again and again, for `bench/hostile`."""
+import random
+import struct
+
+from class_bytes import full_frame, stack_map
+from deep_stacks import CONSTRUCTOR, MAP, NAME, NAMED, STATIC
+from long_descriptors import class_file
+
+MOST, CALLS = 65535, 4_000
+ICONST_0, ACONST_NULL, DUP, POP, IFEQ, RETURN = b"\x03", b"\x01", b"\x59", b"\x57", b"\x99", b"\xb1"
+ALOAD, ASTORE, ISTORE = b"\xc4\x19", b"\xc4\x3a", b"\xc4\x36"  # after wide, with two bytes for the local
+NEW, INVOKESPECIAL = b"\xbb\x00\x01", b"\xb7" + struct.pack(">H", CONSTRUCTOR)
+INIT = 10  # the name of a constructor
+TOP, INT, OWN, CLASS = b"\x00", b"\x01", b"\x06", b"\x07\x00\x01"
+FIRST, SECOND = b"\x08\x00\x00", b"\x08\x00\x04"  # the objects that the first `new` and the second one make
+LINES = {INIT: b"method <init> ()V verified\n", NAME: b"method m ()V verified\n"}
+
+
+def at(number):
+    return struct.pack(">H", number)
+
+
+def load(place):
+    return ALOAD + at(place)
+
+
+def call_on(place):
+    """The constructor is called on the object in this local."""
+    return load(place) + INVOKESPECIAL
+
+
+def frame(delta, types, stack=()):
+    """An entry that gives all locals and the stack, by the bytes of each type."""
+    return b"\xff" + at(delta) + at(len(types)) + b"".join(types) + at(len(stack)) + b"".join(stack)
+
+
+def same(delta):
+    """An entry that declares the frame in front once more."""
+    return bytes([delta]) if delta < 64 else b"\xfb" + at(delta)
+
+
+def in_class(name, code, entries, max_locals=MOST, max_stack=3, handlers=()):
+    """K with one method of this code and stack map: its constructor, or a static one."""
+    body = stack_map(entries)
+    nested = struct.pack(">HI", MAP, len(body)) + body
+    return class_file(NAMED, [], [(name, 1 if name == INIT else STATIC, max_stack, max_locals, code, nested)]), LINES[name]
+
+
+def in_parts(name, head, parts, first, later=same, **sizes):
+    """A method of a head and parts that each end with `return`. The first of the parts has an entry of its own, by the bytes in front of it; the
+    others' are made of the bytes of the part in front of them."""
+    entries = [first(len(head))] + [later(len(it) - 1) for it in parts[:-1]]
+    return in_class(name, head + b"".join(parts), entries, **sizes)
+
+
+CALL = b"\x2a" + INVOKESPECIAL + RETURN  # aload_0
+# what makes one object, two objects, and so many
+ONE, TWO = NEW + RETURN, NEW + POP + NEW + RETURN
+
+
+def own(types, parts, first=frame, **sizes):
+    """A constructor that calls one on its own object, in a part of its own at the beginning."""
+    return in_parts(INIT, CALL, parts, lambda delta: first(delta, types), max_locals=len(types), **sizes)
+
+
+def made(types, parts, head=ONE, **sizes):
+    """A method that calls the constructor on objects that `new` made."""
+    return in_parts(NAME, head, parts, lambda delta: frame(delta, types), max_locals=len(types), **sizes)
+
+
+def by_wide_locals(calls):
+    """Each call is on the object in another local."""
+    return [call_on(65_534 - i * 5) + RETURN for i in range(calls)]
+
+
+def stale(name, head, held, calls):
+    """The first frame has the object in all locals, and those after it in one."""
+    entries = [frame(len(head), [held] * MOST), frame(4, [held]), *[same(4)] * (calls - 1)]
+    return in_class(name, head + CALL * (calls + 1), entries)
+
+
+def stale_stack(calls, depth=20_000):
+    """The first frame has the object in so many items of the stack, and those after it in one local."""
+    entries = [frame(len(ONE), [FIRST], [FIRST] * depth), frame(4, [FIRST]), *[same(4)] * (calls - 1)]
+    return in_class(NAME, ONE + CALL * (calls + 1), entries, max_stack=depth + 1)
+
+
+def on_the_stack(calls):
+    """Each frame has the object on the stack as well."""
+    part = INVOKESPECIAL + RETURN
+    item = lambda delta: b"\xf7" + at(delta) + FIRST
+    return in_parts(NAME, ONE, [part] * calls, lambda delta: frame(delta, [FIRST] * MOST, [FIRST]), item)
+
+
+def every(step, held, other=INT):
+    """Locals that hold the object at each of so many steps, and something else between."""
+    return [other if i % step else held for i in range(MOST)]
+
+
+def appended(calls):
+    """Each frame has a local more that holds the object."""
+    more = lambda delta: b"\xfc" + at(delta) + OWN
+    return in_parts(INIT, CALL, [CALL] * calls, lambda delta: frame(delta, [OWN] * (MOST - calls)), more)
+
+
+def appended_in_turn(calls):
+    """The frames append a local and chop it in turn."""
+    entries = [frame(5, [OWN] * (MOST - 1))] + [b"\xfc" + at(4) + OWN, b"\xfa" + at(4)] * (calls // 2)
+    return in_class(INIT, CALL * (calls // 2 * 2 + 2), entries)
+
+
+def stored_before(act, calls):
+    """Something is stored to a local of its own in front of each call."""
+    return [act + at(2 + 7 * i) + CALL for i in range(calls)]
+
+
+def branching(types, targets, count):
+    """After each call there are branches to the returns at the end, in turn, whose frames have these locals."""
+    part = lambda to: b"\x2a" + INVOKESPECIAL + ICONST_0 + IFEQ + struct.pack(">h", to) + RETURN
+    size, half = len(part(0)), count // 2
+    code = [part((half - i) * size - 5 if i < half else (half - i) * size + len(targets) - 5) for i in range(count)]
+    return types, targets, code
+
+
+def many_objects(count):
+    """As many objects as that, each in as many locals as the others; all frames have all of them, and each part initializes one."""
+    head = (NEW + POP) * count + RETURN
+    types = [b"\x08" + at(i % count * 4) for i in range(MOST)]
+    return made(types, [call_on(i) + RETURN for i in range(count)], head)
+
+
+def in_orders(parts, count=16):
+    """So many objects in each block of as many locals, each time in another order. Each part initializes all, in an order of its own."""
+    chance = random.Random(1)
+    head = (NEW + POP) * count + RETURN
+    objects = [b"\x08" + at(i * 4) for i in range(count)]
+    types = [it for i in range(MOST // count) for it in (chance.sample(objects, count) if i else objects)]
+    calls = [b"".join(call_on(it) for it in chance.sample(range(count), count)) + RETURN for _ in range(parts)]
+    return made(types, calls, head)
+
+
+FILES = {
+    "4,000 calls of a constructor on the own object, which 65,535 locals hold": lambda: own([OWN] * MOST, [CALL] * CALLS),
+    "13,000 calls of a constructor on the own object, which 65,535 locals hold": lambda: own([OWN] * MOST, [CALL] * 13_000),
+    "4,000 calls of a constructor on an object of `new`, which 65,535 locals hold": lambda: made([FIRST] * MOST, [CALL] * CALLS),
+    "4,000 calls of a constructor after one on an own object that 65,535 locals held": lambda: stale(INIT, CALL, OWN, CALLS),
+    "13,000 calls of a constructor after one on an object of `new` that 65,535 locals held": lambda: stale(NAME, ONE, FIRST, 13_000 - 2),
+    "13,000 calls of a constructor after one on an object of `new` that 20,000 items held": lambda: stale_stack(13_000 - 2),
+}
