@@ -2,18 +2,15 @@
 import random
 import struct
 
-from class_bytes import full_frame, stack_map
-from deep_stacks import CONSTRUCTOR, MAP, NAME, NAMED, STATIC
-from long_descriptors import class_file
+from class_bytes import Constants, class_of_members, code_attribute, handler, member
 
 MOST, CALLS = 65535, 4_000
 ICONST_0, ACONST_NULL, DUP, POP, IFEQ, RETURN = b"\x03", b"\x01", b"\x59", b"\x57", b"\x99", b"\xb1"
 ALOAD, ASTORE, ISTORE = b"\xc4\x19", b"\xc4\x3a", b"\xc4\x36"  # after wide, with two bytes for the local
-NEW, INVOKESPECIAL = b"\xbb\x00\x01", b"\xb7" + struct.pack(">H", CONSTRUCTOR)
-INIT = 10  # the name of a constructor
-TOP, INT, OWN, CLASS = b"\x00", b"\x01", b"\x06", b"\x07\x00\x01"
+NEW, INVOKESPECIAL = b"\xbb\x00\x02", b"\xb7\x00\x06"  # the first constants are K, its name and its constructor
+TOP, INT, OWN, CLASS = b"\x00", b"\x01", b"\x06", b"\x07\x00\x02"
 FIRST, SECOND = b"\x08\x00\x00", b"\x08\x00\x04"  # the objects that the first `new` and the second one make
-LINES = {INIT: b"method <init> ()V verified\n", NAME: b"method m ()V verified\n"}
+INIT, STATIC = (b"<init>", 1), (b"m", 9)  # a name and access flags
 
 
 def at(number):
@@ -39,18 +36,19 @@ def same(delta):
     return bytes([delta]) if delta < 64 else b"\xfb" + at(delta)
 
 
-def in_class(name, code, entries, max_locals=MOST, max_stack=3, handlers=()):
-    """K with one method of this code and stack map: its constructor, or a static one."""
-    body = stack_map(entries)
-    nested = struct.pack(">HI", MAP, len(body)) + body
-    return class_file(NAMED, [], [(name, 1 if name == INIT else STATIC, max_stack, max_locals, code, nested)]), LINES[name]
+def in_class(method, code, entries, max_locals=MOST, max_stack=3, handlers=()):
+    """K with one method of this code and stack map, and the line that is printed for it."""
+    constants, (name, flags) = Constants(), method
+    constants.class_of(b"K"), constants.member(10, b"K", b"<init>", b"()V")
+    body = code_attribute(constants, code, max_stack, max_locals, entries, handlers)
+    return class_of_members(constants, b"K", methods=[member(constants, flags, name, b"()V", body)]), b"method %s ()V verified\n" % name
 
 
-def in_parts(name, head, parts, first, later=same, **sizes):
+def in_parts(method, head, parts, first, later=same, **sizes):
     """A method of a head and parts that each end with `return`. The first of the parts has an entry of its own, by the bytes in front of it; the
     others' are made of the bytes of the part in front of them."""
     entries = [first(len(head))] + [later(len(it) - 1) for it in parts[:-1]]
-    return in_class(name, head + b"".join(parts), entries, **sizes)
+    return in_class(method, head + b"".join(parts), entries, **sizes)
 
 
 CALL = b"\x2a" + INVOKESPECIAL + RETURN  # aload_0
@@ -65,7 +63,7 @@ def own(types, parts, first=frame, **sizes):
 
 def made(types, parts, head=ONE, **sizes):
     """A method that calls the constructor on objects that `new` made."""
-    return in_parts(NAME, head, parts, lambda delta: frame(delta, types), max_locals=len(types), **sizes)
+    return in_parts(STATIC, head, parts, lambda delta: frame(delta, types), max_locals=len(types), **sizes)
 
 
 def by_wide_locals(calls):
@@ -73,23 +71,23 @@ def by_wide_locals(calls):
     return [call_on(65_534 - i * 5) + RETURN for i in range(calls)]
 
 
-def stale(name, head, held, calls):
+def stale(method, head, held, calls):
     """The first frame has the object in all locals, and those after it in one."""
     entries = [frame(len(head), [held] * MOST), frame(4, [held]), *[same(4)] * (calls - 1)]
-    return in_class(name, head + CALL * (calls + 1), entries)
+    return in_class(method, head + CALL * (calls + 1), entries)
 
 
 def stale_stack(calls, depth=20_000):
     """The first frame has the object in so many items of the stack, and those after it in one local."""
     entries = [frame(len(ONE), [FIRST], [FIRST] * depth), frame(4, [FIRST]), *[same(4)] * (calls - 1)]
-    return in_class(NAME, ONE + CALL * (calls + 1), entries, max_stack=depth + 1)
+    return in_class(STATIC, ONE + CALL * (calls + 1), entries, max_stack=depth + 1)
 
 
 def on_the_stack(calls):
     """Each frame has the object on the stack as well."""
     part = INVOKESPECIAL + RETURN
     item = lambda delta: b"\xf7" + at(delta) + FIRST
-    return in_parts(NAME, ONE, [part] * calls, lambda delta: frame(delta, [FIRST] * MOST, [FIRST]), item)
+    return in_parts(STATIC, ONE, [part] * calls, lambda delta: frame(delta, [FIRST] * MOST, [FIRST]), item)
 
 
 def every(step, held, other=INT):
@@ -114,12 +112,20 @@ def stored_before(act, calls):
     return [act + at(2 + 7 * i) + CALL for i in range(calls)]
 
 
-def branching(types, targets, count):
-    """After each call there are branches to the returns at the end, in turn, whose frames have these locals."""
-    part = lambda to: b"\x2a" + INVOKESPECIAL + ICONST_0 + IFEQ + struct.pack(">h", to) + RETURN
-    size, half = len(part(0)), count // 2
-    code = [part((half - i) * size - 5 if i < half else (half - i) * size + len(targets) - 5) for i in range(count)]
-    return types, targets, code
+def branching(types, targets, count=3_600):
+    """After each call there is a branch to one of the returns at the end, in turn, whose frames have these locals."""
+    part = lambda to: CALL[:-1] + ICONST_0 + IFEQ + struct.pack(">h", to) + RETURN
+    size = len(part(0))
+    parts = [part((count - i) * size - 5 + i % len(targets)) for i in range(count)]
+    entries = [frame(len(ONE), types), *[same(size - 1)] * (count - 1), frame(size - 1, targets[0]), *[frame(0, it) for it in targets[1:]]]
+    return in_class(STATIC, ONE + b"".join(parts) + RETURN * len(targets), entries)
+
+
+def handled(types, wanted, calls=CALLS):
+    """The calls are under a handler whose frame has these locals."""
+    entries = [frame(len(ONE), types), *[same(4)] * (calls - 1), frame(4, wanted, [TOP])]
+    covered = len(ONE), len(ONE) + len(CALL) * calls
+    return in_class(STATIC, ONE + CALL * calls + RETURN, entries, handlers=[handler(*covered, covered[1])])
 
 
 def many_objects(count):
@@ -144,6 +150,29 @@ FILES = {
     "13,000 calls of a constructor on the own object, which 65,535 locals hold": lambda: own([OWN] * MOST, [CALL] * 13_000),
     "4,000 calls of a constructor on an object of `new`, which 65,535 locals hold": lambda: made([FIRST] * MOST, [CALL] * CALLS),
     "4,000 calls of a constructor after one on an own object that 65,535 locals held": lambda: stale(INIT, CALL, OWN, CALLS),
-    "13,000 calls of a constructor after one on an object of `new` that 65,535 locals held": lambda: stale(NAME, ONE, FIRST, 13_000 - 2),
+    "13,000 calls of a constructor after one on an object of `new` that 65,535 locals held": lambda: stale(STATIC, ONE, FIRST, 13_000 - 2),
     "13,000 calls of a constructor after one on an object of `new` that 20,000 items held": lambda: stale_stack(13_000 - 2),
+    "4,000 calls of a constructor, each by another of 65,535 locals that hold the own object": lambda: own([OWN] * MOST, by_wide_locals(CALLS)),
+    "4,000 calls of a constructor, each by another of 65,535 locals that hold an object of `new`": lambda: made([FIRST] * MOST, by_wide_locals(CALLS)),
+    "8,000 calls of a constructor on an object that is on the stack and in 65,535 locals": lambda: on_the_stack(8_000),
+    "8,000 calls of a constructor on two objects in turn, which 65,535 locals hold in turn": lambda: made([FIRST, SECOND] * 32_767, [call_on(0) + RETURN, call_on(1) + RETURN] * CALLS, TWO),
+    "8,000 calls of a constructor on two objects in turn, each in one half of 65,535 locals": lambda: made([FIRST] * 32_767 + [SECOND] * 32_767, [call_on(0) + RETURN, call_on(50_000) + RETURN] * CALLS, TWO),
+    "4,000 times calls of a constructor on two objects which 65,535 locals hold in turn": lambda: made([FIRST, SECOND] * 32_767, [call_on(0) + call_on(1) + RETURN] * CALLS, TWO),
+    **{f"13,000 calls of a constructor on the own object, which {n} locals hold": lambda n=n: own([OWN] * n, [CALL] * 13_000) for n in (17, 33, 300, 4_000)},
+    **{f"13,000 calls of a constructor on an object of `new`, which {n} locals hold": lambda n=n: made([FIRST] * n, [CALL] * 13_000) for n in (17, 33, 300, 4_000)},
+    **{f"13,000 calls of a constructor on the own object, which one in {n} of 65,535 locals holds": lambda n=n: own(every(n, OWN), [CALL] * 13_000) for n in (16, 17, 255, 256)},
+    "8,000 calls of a constructor, each frame with a local more that holds the own object": lambda: appended(8_000),
+    "8,000 calls of a constructor, whose frames append one of 65,535 locals and chop it in turn": lambda: appended_in_turn(8_000),
+    "4,000 calls of a constructor on an object of 65,535 locals, each after a store of an int": lambda: own([OWN] * MOST, stored_before(ICONST_0 + ISTORE, CALLS)),
+    "4,000 calls of a constructor on an object of 33,000 of 65,535 locals, each after a store of it": lambda: own([OWN] * 1 + every(2, OWN)[1:], stored_before(b"\x2a" + ASTORE, CALLS)),
+    "4,000 calls of a constructor on an object of 65,535 locals, each after a `new`": lambda: made([FIRST] * MOST, [NEW + POP + CALL] * CALLS),
+    "4,000 calls of a constructor on an object of 65,535 locals, each after a `new` that is stored": lambda: made([FIRST] * MOST, stored_before(NEW + ASTORE, CALLS)),
+    "3,600 calls of a constructor on an object of 65,535 locals, each before a branch to a frame of objects": lambda: branching([FIRST] * MOST, [[CLASS] * MOST]),
+    "3,600 calls of a constructor on an object of 65,535 locals, each before a branch to two frames in turn": lambda: branching([FIRST] * MOST, [[TOP] * MOST, [CLASS] * MOST]),
+    "4,000 calls of a constructor on an object of 65,535 locals, under a handler with as many": lambda: handled([FIRST] * MOST, [TOP] * MOST),
+    "4,000 calls of a constructor on an object of 65,535 locals, under a handler without locals": lambda: handled([FIRST] * MOST, []),
+    "131 objects of `new` in 500 of 65,535 locals each, all brought back after each call": lambda: many_objects(131),
+    "4,000 objects of `new` in 16 of 65,535 locals each, all brought back after each call": lambda: many_objects(4_000),
+    "16 objects of `new` in each block of 16 of 65,535 locals, initialized in 600 orders": lambda: in_orders(600),
+    "5 objects of `new` in each 5 of 65,535 locals, initialized in 2,000 orders": lambda: in_orders(2_000, 5),
 }
