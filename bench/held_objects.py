@@ -18,7 +18,7 @@ def at(number):
 
 
 def load(place):
-    return ALOAD + at(place)
+    return ALOAD + at(place) if place > 255 else ALOAD[1:] + bytes([place])
 
 
 def call_on(place):
@@ -128,6 +128,26 @@ def handled(types, wanted, calls=CALLS):
     return in_class(STATIC, ONE + CALL * calls + RETURN, entries, handlers=[handler(*covered, covered[1])])
 
 
+def handled_in_turn(handlers, calls=CALLS):
+    """The calls are under so many handlers, whose frames have K or Top in local 0 in turn."""
+    types = [CLASS] + [FIRST] * (MOST - 1)
+    call = call_on(1) + RETURN
+    covered = len(ONE), len(ONE) + len(call) * calls
+    entries = [frame(len(ONE), types), *[same(len(call) - 1)] * (calls - 1), frame(len(call) - 1, [], [TOP])]
+    entries += [frame(0, [CLASS] if i % 2 else [], [TOP]) for i in range(1, handlers)]
+    table = [handler(*covered, covered[1] + i) for i in range(handlers)]
+    return in_class(STATIC, ONE + call * calls + RETURN * handlers, entries, handlers=table)
+
+
+def between_branches(count=2_500):
+    """In front of each call and after it there is a branch to a frame of Top."""
+    branch = lambda to: ICONST_0 + IFEQ + struct.pack(">h", to)
+    size = 4 + 4 + 4 + 1
+    part = lambda i: branch(size * (count - i) - 1) + CALL[:-1] + branch(size * (count - i) - 9) + RETURN
+    entries = [frame(len(ONE), [FIRST] * MOST), *[same(size - 1)] * (count - 1), frame(size - 1, [TOP] * MOST)]
+    return in_class(STATIC, ONE + b"".join(map(part, range(count))) + RETURN, entries)
+
+
 def many_objects(count):
     """As many objects as that, each in as many locals as the others; all frames have all of them, and each part initializes one."""
     head = (NEW + POP) * count + RETURN
@@ -171,8 +191,11 @@ FILES = {
     "3,600 calls of a constructor on an object of 65,535 locals, each before a branch to two frames in turn": lambda: branching([FIRST] * MOST, [[TOP] * MOST, [CLASS] * MOST]),
     "4,000 calls of a constructor on an object of 65,535 locals, under a handler with as many": lambda: handled([FIRST] * MOST, [TOP] * MOST),
     "4,000 calls of a constructor on an object of 65,535 locals, under a handler without locals": lambda: handled([FIRST] * MOST, []),
+    "2,500 calls of a constructor on an object of 65,535 locals, each between branches to a frame of as many": between_branches,
+    "4,000 calls of a constructor on an object of 65,534 locals, under 1,000 handlers that differ in the other one": lambda: handled_in_turn(1_000),
     "131 objects of `new` in 500 of 65,535 locals each, all brought back after each call": lambda: many_objects(131),
     "4,000 objects of `new` in 16 of 65,535 locals each, all brought back after each call": lambda: many_objects(4_000),
-    "16 objects of `new` in each block of 16 of 65,535 locals, initialized in 600 orders": lambda: in_orders(600),
-    "5 objects of `new` in each 5 of 65,535 locals, initialized in 2,000 orders": lambda: in_orders(2_000, 5),
+    "16 objects of `new` in each block of 16 of 65,535 locals, initialized in 800 orders": lambda: in_orders(800),
+    "5 objects of `new` in each 5 of 65,535 locals, initialized in 2,500 orders": lambda: in_orders(2_500, 5),
 }
+COMMANDS = {"FILES": ["verify"]}
