@@ -48,6 +48,11 @@ class Covered:
         self.places += 1
         return self.places - 1
 
+    def add_frame_anew(self, types):
+        """The same after a frame without locals, so that nothing is shared with a frame in front."""
+        self.add_frame([])
+        return self.add_frame(types)
+
     def cover(self, place, start=0, end=None):
         """A handler at this place for a part of the body, which is all of it if no other is named."""
         to = 2 + len(self.body) + place
@@ -122,8 +127,8 @@ def of_equal_rows(short, width, type_of=INT, long=1):
     size = len(stores[0])
     method = Covered(Constants(), [type_of] * width + [FLOAT], b"".join(stores[i % 2] for i in range(short)), width + 1)
     for _ in range(long):
-        method.cover(method.add_frame([type_of] * width))
-    ends = [method.add_frame([type_of] * width + [it]) for it in (FLOAT, INT)]
+        method.cover(method.add_frame_anew([type_of] * width))
+    ends = [method.add_frame_anew([type_of] * width + [it]) for it in (FLOAT, INT)]
     for i in range(short):
         method.cover(ends[i % 2], size * i, size * i + 1)
     return [method.made()], LINES, 0
@@ -136,7 +141,7 @@ def visited(frames, blocks, stores, entries, come=(b"Y", b"Z"), wanted=b"I", kno
     size = 5
     body = b"".join(ALOAD[i // blocks % 2] + b"\xc4\x3a" + at(16 * (i % blocks) + 2) for i in range(stores))
     method = Covered(constants, types * (8 * blocks), body, 16 * blocks)
-    places = [method.add_frame([class_named(constants, wanted)] * (16 * blocks)) for _ in range(frames)]
+    places = [method.add_frame_anew([class_named(constants, wanted)] * (16 * blocks)) for _ in range(frames)]
     for i in range(entries):
         start = i * stores // entries * size
         method.cover(places[i % frames], start, start + size)
@@ -150,11 +155,12 @@ def branched(frames, blocks, stores):
     wanted = [class_named(constants, b"I")] * (16 * blocks)
 
     def part(i):
-        branch = ICONST_0 + IFEQ + struct.pack(">h", 9 * (stores - i) - 6 + i % frames)
+        branch = ICONST_0 + IFEQ + struct.pack(">h", 9 * (stores - i) - 6 + 2 * (i % frames))
         return ALOAD[i // blocks % 2] + b"\xc4\x3a" + at(16 * (i % blocks) + 2) + branch
 
-    code = RETURN + b"".join(map(part, range(stores))) + RETURN * frames
-    entries = [frame(1, types * (8 * blocks)), *[frame(0 if i else 9 * stores - 1, wanted) for i in range(frames)]]
+    code = RETURN + b"".join(map(part, range(stores))) + RETURN * (2 * frames - 1)
+    between = [it for _ in range(1, frames) for it in (frame(0, []), frame(0, wanted))]
+    entries = [frame(1, types * (8 * blocks)), frame(9 * stores - 1, wanted), *between]
     body = code_attribute(constants, code, 1, 16 * blocks, entries)
     return [class_of_members(constants, b"K", methods=[member(constants, STATIC, b"m", b"()V", body)]), interface(b"I")], LINES, 0
 

@@ -194,15 +194,16 @@ SHORT = {name: pair for name, pair in PAIRS.items() if max(map(len, pair[:2])) <
 FEW = of_names(("a class where an interface of a long name is wanted", "one of an interface of a long name is wanted", "one of 254 of Object is wanted", "Cloneable is wanted"))
 FILES = {
     **each("20,000 handlers, 16 locals", lambda *it: handled(HANDLERS, *it), PAIRS),
-    **each("20,000 handlers, 17 locals", lambda *it: handled(HANDLERS, *it, 17), SHORT),
+    **each("65,535 handlers, 16 locals", lambda *it: handled(65_535, *it), SHORT),
+    **each("65,535 handlers, 17 locals", lambda *it: handled(65_535, *it, 17), SHORT),
     **each("20,000 handlers, one local", lambda *it: handled(HANDLERS, *it, 1), FEW),
     **each("20,000 handlers, 16 locals", lambda *it: handled_in_turn(HANDLERS, *it), IN_TURN),
     **each("20,000 handlers, 33 locals", lambda *it: handled_in_turn(HANDLERS, *it, 33), IN_TURN),
     **each("20,000 handlers, 4,000 locals", lambda *it: handled_in_turn(HANDLERS, *it, 4_000), IN_TURN),
     **each("a switch of 15,990 targets, 16 locals", lambda come, wanted: switched(come, [wanted]), PAIRS),
-    **each("a switch of 15,990 targets, 16 items", lambda come, wanted: switched(come, [wanted], deep=True), FEW),
+    **each("a switch of 15,990 targets, 15 items", lambda come, wanted: switched(come, [wanted], 15, deep=True), FEW),
     **each("a switch of 15,990 targets, 16 locals", switched, IN_TURN),
-    **each("a switch of 15,990 targets, 33 items", lambda *it: switched(*it, 33, deep=True), IN_TURN),
+    **each("a switch of 15,990 targets, 15 items", lambda *it: switched(*it, 15, deep=True), IN_TURN),
     **each("a switch of 15,990 targets to 400 frames, 16 locals", lambda come, wanted: switched(come, wanted * 200), IN_TURN),
     **each("8,000 branches, 16 locals", branching, IN_TURN),
     **each("8,000 branches, 16 locals", lambda come, wanted: branching(come, [wanted]), FEW),
@@ -214,3 +215,4 @@ FILES = {
     **each_in_methods("20,000 results", lambda *it: returned(*it, 20_000), FEW),
     **each_in_methods("250 calls with 255 arguments in each of 10 methods", lambda *it: called(*it, 250, 255, 10), SHORT),
 }
+COMMANDS = {"FILES": ["verify"]}
