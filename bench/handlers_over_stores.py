@@ -102,6 +102,21 @@ def loads(count, kinds=3):
     return lambda _: b"".join(ALOAD[1 + i % kinds] + ASTORE[0] for i in range(count))
 
 
+def news(count, place=1):
+    """Each stores an object that it makes."""
+    return lambda constants: store(b"\xbb" + at(constants.class_of(b"K")), place) * count
+
+
+def staggered(count, stores, ends=False):
+    """Handlers with int or Top in local 0 in turn, each of which begins with a store of its own, or ends with it, over stores to local 1."""
+    size = 2
+    method = Covered(Constants(), [INT], in_turn(INTS_AND_FLOATS, [1], stores), 2)
+    for i in range(count):
+        edge = size * (i * stores // count)
+        method.cover(method.add_frame([INT] if i % 2 else []), *((0, edge + size) if ends else (edge, None)))
+    return [method.made()], LINES, 0
+
+
 def with_types(types):
     """Locals that have these types at these places, and Top at the others."""
     return [types.get(place, TOP) for place in range(max(types, default=-1) + 1)]
@@ -166,6 +181,7 @@ def branched(frames, blocks, stores):
 
 
 INT_OR_TOP, OBJECT, K = [[INT], []], b"java/lang/Object", b"K"
+MANY_CLASSES = [b"y%d" % i for i in range(8_000)]
 INTERFACES = [[0], [1]]
 NAMES, SUPERS = [b"I", b"J"], [b"[L" + b"i" * 1000 + b";", b"[L" + b"j" * 1000 + b";"]
 FILES = {
@@ -183,6 +199,12 @@ FILES = {
     "20,000 handlers of four kinds in turn in local 0 over 20,000 stores to local 1": lambda: beside([[0], [1], [NULL], []], [NULL], [1], names=[K, OBJECT]),
     "12,000 handlers with int or Top in local 20 in turn over 20,000 stores to local 1": lambda: beside([[TOP] * 20 + [INT], []], [TOP] * 20 + [INT], [1], 12_000),
     "20,000 handlers with int or Top in local 1 in turn over 20,000 stores to local 0": lambda: beside([[TOP, INT], []], [TOP, INT], [0]),
+    "20,000 handlers with int or Top in local 0 in turn over 10,000 objects of `new` stored to local 1": lambda: covered(20_000, INT_OR_TOP, news(10_000), 2, [INT]),
+    "20,000 handlers with int or Top in local 0 in turn over 8,000 stores of as many classes to local 1": lambda: covered(20_000, INT_OR_TOP, casts(MANY_CLASSES, 1), 2, [INT]),
+    "20,000 handlers with int and Object or Object in turn over 8,000 stores of as many classes to local 1": lambda: covered(20_000, [[INT, 0], [TOP, 0]], casts(MANY_CLASSES, 1), 2, [INT, NULL], [OBJECT]),
+    "20,000 handlers with int and an interface or Object in turn over 8,000 stores of as many classes to local 1": lambda: covered(20_000, [[INT, 0], [TOP, 1]], casts(MANY_CLASSES, 1), 2, [INT, NULL], [b"I", OBJECT], [b"I"]),
+    "20,000 handlers with int or Top in local 0 in turn, each of which begins with a store to local 1": lambda: staggered(20_000, 20_000),
+    "20,000 handlers with int or Top in local 0 in turn, each of which ends with a store to local 1": lambda: staggered(20_000, 20_000, True),
     "20,000 handlers that want two interfaces in turn in local 0 over 20,000 stores of three absent classes": lambda: covered(20_000, INTERFACES, loads(20_000), 4, [2, 2, 3, 4], [*NAMES, b"X", b"Y", b"Z"], NAMES),
     "3,000 handlers that want two interfaces in turn in local 0 over 10,000 stores of as many absent classes": lambda: covered(3_000, INTERFACES, casts([b"y%d" % i for i in range(10_000)]), 1, [NULL], NAMES, NAMES),
     "3,000 handlers that want arrays of two interfaces of long names in turn over 3,000 stores of arrays of absent classes": lambda: covered(3_000, INTERFACES, casts([b"[Ly%d;" % i for i in range(3_000)]), 1, [NULL], SUPERS, [it[2:-1] for it in SUPERS]),

@@ -103,7 +103,7 @@ TYPES = field_types(2_000)
 OF_LONG_CLASS = LONG_CLASS, NAMES, field_types(180), 32_000
 OF_LONG_NAMES, OF_LONG_TYPES = (ABOVE, ALIKE, TYPES, 30_000), (ABOVE, numbered(b"f", 2_000), TYPES_ALIKE, 30_000)
 OF_LONG_METHODS = LONG_CLASS, NAMES, method_types(180), 32_000
-LONG_METHODS = [(LONG_NAME, it) for it in method_types(60_000)]
+LONG_METHODS = lambda: [(LONG_NAME, it) for it in method_types(60_000)]
 BY_LONG_NAME = lambda count: (ABOVE, [LONG_NAME], field_types(count), count)
 # K, which uses members of its superclass, and that one; K is judged, or both are in play
 BELOW = {
@@ -115,14 +115,14 @@ BELOW = {
     "a read of a field below 60,000 protected fields of one long name": lambda: [reading(*BY_LONG_NAME(1)), declaring(ABOVE, of_one_name(60_000))],
     "a read of a field below 3,000 protected fields of one long name": lambda: [reading(*BY_LONG_NAME(1)), declaring(ABOVE, of_one_name(3_000))],
     "20,000 Fieldrefs of fields of one long name below 60,000 such protected ones": lambda: [reading(*BY_LONG_NAME(20_000)), declaring(ABOVE, of_one_name(60_000))],
-    "a call of a method below 60,000 protected methods of one long name": lambda: [calling(ABOVE, [LONG_NAME], method_types(1), 1), declaring_methods(ABOVE, LONG_METHODS)],
+    "a call of a method below 60,000 protected methods of one long name": lambda: [calling(ABOVE, [LONG_NAME], method_types(1), 1), declaring_methods(ABOVE, LONG_METHODS())],
 }
 # classes in play
 IN_PLAY = {
     **BELOW,
     "60,000 fields of one long name": lambda: [declaring(b"K", of_one_name(60_000), flags=0)],
     "60,000 protected fields of one long name": lambda: [declaring(b"K", of_one_name(60_000))],
-    "60,000 protected methods of one long name": lambda: [declaring_methods(b"K", LONG_METHODS)],
+    "60,000 protected methods of one long name": lambda: [declaring_methods(b"K", LONG_METHODS())],
     "3,000 protected fields of one long name": lambda: [declaring(b"K", of_one_name(3_000))],
     "320,000 protected fields": lambda: [declaring(b"c%d" % i, [(it, b"I") for it in numbered(b"f", 32_000)]) for i in range(10)],
     "320,000 protected fields in a line of superclasses": lambda: [declaring(b"c%d" % i, [(it, b"I") for it in numbered(b"f", 32_000)], b"c%d" % (i + 1) if i < 9 else OBJECT) for i in range(10)],
