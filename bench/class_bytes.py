@@ -25,6 +25,15 @@ def full_frame(delta, locals_given, stack_given=b""):
     return b"\xff" + struct.pack(">HH", delta, len(locals_given)) + locals_given + struct.pack(">H", len(stack_given)) + stack_given
 
 
+def at(number):
+    return struct.pack(">H", number)
+
+
+def frame(delta, types, stack=()):
+    """Such an entry, by the bytes of each type."""
+    return b"\xff" + at(delta) + at(len(types)) + b"".join(types) + at(len(stack)) + b"".join(stack)
+
+
 def stack_map(entries):
     return struct.pack(">H", len(entries)) + b"".join(entries)
 

@@ -1,11 +1,11 @@
 """Class files whose methods are refused at one of very many handlers or targets, and what `explain` prints of them, for `bench/hostile`."""
 import struct
 
-from class_bytes import Constants, class_of_members, code_attribute, handler, interface, member
+from class_bytes import Constants, class_of_members, code_attribute, frame, handler, interface, member
 from explained_frames import AT_HANDLER, AT_TARGET, text
-from long_names import array, frame, named
+from long_names import array, named
 
-ICONST_0, NOP, RETURN, TABLESWITCH = b"\x03", b"\x00", b"\xb1", b"\xaa"
+ICONST_0, RETURN, TABLESWITCH = b"\x03", b"\xb1", b"\xaa"
 TOP, FLOAT = b"\x00", b"\x02"
 STATIC = 9
 MISSING = "77 ClassMissing: a comparison of types needs the class of this name, which is not among the files"
@@ -97,4 +97,3 @@ FILES = {
     **each(at_a_target, "the last of 15,990 targets at 400 frames", (68, 77), SHORT, returns=400),
     **each(at_a_target, "the last of 15,990 targets with 15 items", (68, 77), SHORT, places=15, deep=True),
 }
-COMMANDS = {"FILES": ["explain"]}

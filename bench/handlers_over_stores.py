@@ -1,23 +1,13 @@
 """Methods with very many stores under very many handlers, whose frames have little in common one after the other, for `bench/hostile`."""
 import struct
 
-from class_bytes import Constants, class_of_members, code_attribute, handler, interface, member
+from class_bytes import Constants, at, class_of_members, code_attribute, frame, handler, interface, member
 
 ICONST_0, FCONST_0, LCONST_0, DCONST_0, ACONST_NULL, RETURN, IFEQ = b"\x03", b"\x0b", b"\x09", b"\x0e", b"\x01", b"\xb1", b"\x99"
 ALOAD, ASTORE = [b"\x2a", b"\x2b", b"\x2c", b"\x2d"], [b"\x4b", b"\x4c", b"\x4d", b"\x4e"]  # of the locals from 0 to 3
-TOP, INT, FLOAT, DOUBLE, LONG, NULL = b"\x00", b"\x01", b"\x02", b"\x03", b"\x04", b"\x05"
-TOP_ON_STACK = b"\x40\x00"
+TOP, INT, FLOAT, LONG, NULL = b"\x00", b"\x01", b"\x02", b"\x04", b"\x05"
 STATIC = 9
 LINES = b"method m ()V verified\n"
-
-
-def at(number):
-    return struct.pack(">H", number)
-
-
-def frame(delta, types, stack=()):
-    """An entry that gives all locals and the stack, by the bytes of each type."""
-    return b"\xff" + at(delta) + at(len(types)) + b"".join(types) + at(len(stack)) + b"".join(stack)
 
 
 def store(act, place):
@@ -227,4 +217,3 @@ FILES = {
     "60,000 entries that lead to 300 frames of 40 blocks of arrays of Object in turn, over stores of arrays": lambda: visited(300, 40, 7_800, 60_000, (b"[[I", b"[LK;"), b"[Ljava/lang/Object;", ()),
     "3,600 stores to 60 blocks in turn, each before a branch to one of 60 frames in turn": lambda: branched(60, 60, 3_600),
 }
-COMMANDS = {"FILES": ["verify"]}

@@ -2,19 +2,15 @@
 import random
 import struct
 
-from class_bytes import Constants, class_of_members, code_attribute, handler, member
+from class_bytes import Constants, at, class_of_members, code_attribute, frame, handler, member
 
 MOST, CALLS = 65535, 4_000
-ICONST_0, ACONST_NULL, DUP, POP, IFEQ, RETURN = b"\x03", b"\x01", b"\x59", b"\x57", b"\x99", b"\xb1"
+ICONST_0, POP, IFEQ, RETURN = b"\x03", b"\x57", b"\x99", b"\xb1"
 ALOAD, ASTORE, ISTORE = b"\xc4\x19", b"\xc4\x3a", b"\xc4\x36"  # after wide, with two bytes for the local
 NEW, INVOKESPECIAL = b"\xbb\x00\x02", b"\xb7\x00\x06"  # the first constants are K, its name and its constructor
 TOP, INT, OWN, CLASS = b"\x00", b"\x01", b"\x06", b"\x07\x00\x02"
 FIRST, SECOND = b"\x08\x00\x00", b"\x08\x00\x04"  # the objects that the first `new` and the second one make
 INIT, STATIC = (b"<init>", 1), (b"m", 9)  # a name and access flags
-
-
-def at(number):
-    return struct.pack(">H", number)
 
 
 def load(place):
@@ -24,11 +20,6 @@ def load(place):
 def call_on(place):
     """The constructor is called on the object in this local."""
     return load(place) + INVOKESPECIAL
-
-
-def frame(delta, types, stack=()):
-    """An entry that gives all locals and the stack, by the bytes of each type."""
-    return b"\xff" + at(delta) + at(len(types)) + b"".join(types) + at(len(stack)) + b"".join(stack)
 
 
 def same(delta):
@@ -198,4 +189,3 @@ FILES = {
     "16 objects of `new` in each block of 16 of 65,535 locals, initialized in 800 orders": lambda: in_orders(800),
     "5 objects of `new` in each 5 of 65,535 locals, initialized in 2,500 orders": lambda: in_orders(2_500, 5),
 }
-COMMANDS = {"FILES": ["verify"]}

@@ -1,7 +1,7 @@
 """Class files whose frames ask whether a class with a long name, an absent one or an array is assignable to another, for `bench/hostile`."""
 import struct
 
-from class_bytes import Constants, class_of_members, code_attribute, handler, interface, member
+from class_bytes import Constants, at, class_of_members, code_attribute, frame, handler, interface, member
 
 LONG, OTHER = b"a" * 65_000, b"b" * 65_000
 ICONST_0, ALOAD_0, ARETURN, RETURN, TABLESWITCH, INVOKESTATIC, INVOKEVIRTUAL, PUTSTATIC, ACONST_NULL, IFEQ = b"\x03", b"\x2a", b"\xb0", b"\xb1", b"\xaa", b"\xb8", b"\xb6", b"\xb3", b"\x01", b"\x99"
@@ -12,15 +12,6 @@ VERIFIED = NAME_OF_METHOD + b"verified\n", 0
 
 def missing(at, name):
     return NAME_OF_METHOD + b"refused 77 at %d missing %s\n" % (at, name), 1
-
-
-def at(number):
-    return struct.pack(">H", number)
-
-
-def frame(delta, types, stack=()):
-    """An entry that gives all locals and the stack, by the bytes of each type."""
-    return b"\xff" + at(delta) + at(len(types)) + b"".join(types) + at(len(stack)) + b"".join(stack)
 
 
 def array(name, dims=1):
@@ -215,4 +206,3 @@ FILES = {
     **each_in_methods("20,000 results", lambda *it: returned(*it, 20_000), FEW),
     **each_in_methods("250 calls with 255 arguments in each of 10 methods", lambda *it: called(*it, 250, 255, 10), SHORT),
 }
-COMMANDS = {"FILES": ["verify"]}

@@ -1,19 +1,14 @@
 """Very many small classes, classes of very many members, and references that name one long text, for `play`, `verify-each` and `verify` in `bench/hostile`."""
-import struct
-
-from class_bytes import Constants, class_of_members, code_attribute, member
+from class_bytes import Constants, at, class_of_members, code_attribute, frame, member
 from long_texts import LONGEST
 
 ACONST_NULL, RETURN, GETFIELD, INVOKEVIRTUAL = b"\x01", b"\xb1", b"\xb4", b"\xb6"
 FIELDREF, METHODREF = 9, 10
+INT, FLOAT = b"\x01", b"\x02"
 STATIC, PROTECTED = 9, 4
 OBJECT = b"java/lang/Object"
 LONG_CLASS, LONG_NAME = b"p/" + b"a" * (LONGEST - 2), b"x" * LONGEST
 MANY = 40_000
-
-
-def at(number):
-    return struct.pack(">H", number)
 
 
 def method(constants, name, code, max_stack=2):
@@ -80,11 +75,11 @@ def in_line(count):
     return [small(*it) for it in zip(names, names[1:])]
 
 
-def full_frames(count, methods, types=b"\x01\x02"):
+def full_frames(count, methods, types=(INT, FLOAT)):
     """A class whose methods have so many frames of 65,535 locals each."""
     constants = Constants()
-    entry = lambda i: b"\xff" + at(1 if i == 0 else 0) + at(LONGEST) + types[i % 2 : i % 2 + 1] * LONGEST + bytes(2)
-    body = code_attribute(constants, RETURN * (count + 1), 0, LONGEST, list(map(entry, range(count))))
+    entries = [frame(0 if i else 1, [types[i % 2]] * LONGEST) for i in range(count)]
+    body = code_attribute(constants, RETURN * (count + 1), 0, LONGEST, entries)
     return class_of_members(constants, b"K", methods=[member(constants, STATIC, b"m%d" % i if i else b"m", b"()V", body) for i in range(methods)])
 
 
