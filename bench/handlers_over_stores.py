@@ -3,7 +3,7 @@ import struct
 
 from class_bytes import Constants, at, class_of_members, code_attribute, frame, handler, interface, member
 
-ICONST_0, FCONST_0, LCONST_0, DCONST_0, ACONST_NULL, RETURN, IFEQ = b"\x03", b"\x0b", b"\x09", b"\x0e", b"\x01", b"\xb1", b"\x99"
+NOP, ICONST_0, FCONST_0, LCONST_0, DCONST_0, ACONST_NULL, RETURN, IFEQ = b"\x00", b"\x03", b"\x0b", b"\x09", b"\x0e", b"\x01", b"\xb1", b"\x99"
 ALOAD, ASTORE = [b"\x2a", b"\x2b", b"\x2c", b"\x2d"], [b"\x4b", b"\x4c", b"\x4d", b"\x4e"]  # of the locals from 0 to 3
 TOP, INT, FLOAT, LONG, NULL = b"\x00", b"\x01", b"\x02", b"\x04", b"\x05"
 STATIC = 9
@@ -23,11 +23,12 @@ def class_named(constants, name):
 
 
 class Covered:
-    """A method whose body stands under handlers at its end, with one frame in front of the body, and one at each handler."""
+    """A method whose body stands under handlers at its end, with one frame in front of the body, one at each handler, and perhaps some at the second
+    instruction of the body and those after it, which have one byte."""
 
     def __init__(self, constants, first, body, max_locals):
         self.constants, self.first, self.body, self.max_locals = constants, first, body, max_locals
-        self.entries, self.table, self.places = [], [], 0
+        self.inner, self.entries, self.table, self.places = [], [], [], 0
 
     def add_frame(self, types):
         """A return at the end, with a frame of these locals; gives its place among them."""
@@ -51,7 +52,8 @@ class Covered:
     def made(self):
         """K with this method."""
         entry = self.entries[0]
-        entries = [frame(1, self.first), entry[:1] + at(len(self.body)) + entry[3:], *self.entries[1:]]
+        delta = at(len(self.body) - len(self.inner))
+        entries = [frame(1, self.first), *self.inner, entry[:1] + delta + entry[3:], *self.entries[1:]]
         code = RETURN + self.body + RETURN * (1 + self.places)
         body = code_attribute(self.constants, code, 4, self.max_locals, entries, self.table)
         return class_of_members(self.constants, b"K", methods=[member(self.constants, STATIC, b"m", b"()V", body)])
@@ -95,6 +97,15 @@ def loads(count, kinds=3):
 def news(count, place=1):
     """Each stores an object that it makes."""
     return lambda constants: store(b"\xbb" + at(constants.class_of(b"K")), place) * count
+
+
+def over_frames(count, frames, entries=(b"\xfc\x00\x00\x01", b"\xfa\x00\x00")):
+    """Handlers with int or Top in local 0 in turn, over as many frames that append a local and chop it in turn."""
+    method = Covered(Constants(), [INT], RETURN * frames + NOP, 4)
+    method.inner = list(entries) * (frames // 2)
+    for i in range(count):
+        method.cover(method.add_frame([INT] if i % 2 else []))
+    return [method.made()], LINES, 0
 
 
 def staggered(count, stores, ends=False):
@@ -181,6 +192,9 @@ FILES = {
     "20,000 handlers with int or Top in local 0 in turn over 8,000 stores to local 65,533": lambda: beside(INT_OR_TOP, [INT], [65_533], 20_000, 8_000),
     "20,000 handlers with int or Top in local 0 in turn over 20,000 stores to locals 1 to 3 in turn": lambda: beside(INT_OR_TOP, [INT], [1, 2, 3]),
     "20,000 handlers with int or Top in local 0 in turn over 14,000 stores to 200 locals in turn": lambda: beside(INT_OR_TOP, [INT], range(4, 204), 20_000, 14_000),
+    "20,000 handlers with int or Top in local 0 in turn over 9,000 stores to a local each": lambda: beside(INT_OR_TOP, [INT], range(256, 9_256), 20_000, 9_000),
+    "5,000 handlers with int or Top in local 0 in turn over 11,000 stores to a local each": lambda: beside(INT_OR_TOP, [INT], range(256, 11_256), 5_000, 11_000),
+    "5,000 handlers with int or Top in local 0 in turn over 11,000 stores to a local in each block": lambda: beside(INT_OR_TOP, [INT], range(16, 65_520, 16), 5_000, 11_000),
     "20,000 handlers with int or Top in local 0 in turn over 20,000 stores of longs and doubles": lambda: beside(INT_OR_TOP, [INT], [1], acts=[LCONST_0, DCONST_0]),
     "20,000 handlers with null or Top in local 0 in turn over 20,000 stores to local 1": lambda: beside([[NULL], []], [NULL], [1]),
     "20,000 handlers with long or Top in local 0 in turn over 20,000 stores to local 2": lambda: beside([[LONG], []], [LONG], [2]),
@@ -193,6 +207,8 @@ FILES = {
     "20,000 handlers with int or Top in local 0 in turn over 8,000 stores of as many classes to local 1": lambda: covered(20_000, INT_OR_TOP, casts(MANY_CLASSES, 1), 2, [INT]),
     "20,000 handlers with int and Object or Object in turn over 8,000 stores of as many classes to local 1": lambda: covered(20_000, [[INT, 0], [TOP, 0]], casts(MANY_CLASSES, 1), 2, [INT, NULL], [OBJECT]),
     "20,000 handlers with int and an interface or Object in turn over 8,000 stores of as many classes to local 1": lambda: covered(20_000, [[INT, 0], [TOP, 1]], casts(MANY_CLASSES, 1), 2, [INT, NULL], [b"I", OBJECT], [b"I"]),
+    "20,000 handlers with int or Top in local 0 in turn over 40,000 frames that append a local and chop it in turn": lambda: over_frames(20_000, 40_000),
+    "20,000 handlers with int or Top in local 0 in turn over 40,000 frames that append three locals and chop them in turn": lambda: over_frames(20_000, 40_000, (b"\xfe\x00\x00\x01\x02\x05", b"\xf8\x00\x00")),
     "20,000 handlers with int or Top in local 0 in turn, each of which begins with a store to local 1": lambda: staggered(20_000, 20_000),
     "20,000 handlers with int or Top in local 0 in turn, each of which ends with a store to local 1": lambda: staggered(20_000, 20_000, True),
     "20,000 handlers that want two interfaces in turn in local 0 over 20,000 stores of three absent classes": lambda: covered(20_000, INTERFACES, loads(20_000), 4, [2, 2, 3, 4], [*NAMES, b"X", b"Y", b"Z"], NAMES),

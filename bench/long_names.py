@@ -181,8 +181,8 @@ def of_names(ends):
 
 
 SHORT = {name: pair for name, pair in PAIRS.items() if max(map(len, pair[:2])) < 200}
-# an absent class, arrays of one, of 255 dimensions, of Object, and of a class that is known
-FEW = of_names(("a class where an interface of a long name is wanted", "one of an interface of a long name is wanted", "one of 254 of Object is wanted", "Cloneable is wanted"))
+# those that are tried in more ways
+FEW = of_names(("absent class where an interface of a long name is wanted", "one of an interface of a long name is wanted", "one of 254 of Object is wanted", "Cloneable is wanted"))
 FILES = {
     **each("20,000 handlers, 16 locals", lambda *it: handled(HANDLERS, *it), PAIRS),
     **each("65,535 handlers, 16 locals", lambda *it: handled(65_535, *it), SHORT),
