@@ -73,7 +73,7 @@ class Constants:
     """The constants of a class; the ones that are asked for again are in it once."""
 
     def __init__(self):
-        self.parts, self.numbers = [], {}
+        self.parts, self.numbers, self.texts = [], {}, {}
 
     def add(self, part):
         if part not in self.numbers:
@@ -82,7 +82,9 @@ class Constants:
         return self.numbers[part]
 
     def text(self, text):
-        return self.add(utf8(text))
+        if text not in self.texts:
+            self.texts[text] = self.add(utf8(text))
+        return self.texts[text]
 
     def class_of(self, name):
         return self.add(b"\x07" + struct.pack(">H", self.text(name)))

@@ -142,7 +142,6 @@ EACH = {
 # the class that is judged, and those that are known
 FILES = {
     **BELOW,
-    "240 full frames of 65,535 locals in one method": lambda: [full_frames(240, 1)],
     "40,000 known classes of 57 bytes": lambda: [with_method(b"K"), *map(small, numbered(b"c", MANY))],
 }
 LINES = b"method m ()V verified\n"
