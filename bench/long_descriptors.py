@@ -1,6 +1,7 @@
 """Class files whose methods name constants of one long text again and again, and fields of a class that has very many, for `bench/hostile`."""
 import struct
 
+from class_bytes import at
 from long_texts import LONGEST, indices, utf8
 
 NOP, ACONST_NULL, ICONST_0, ALOAD_0, POP, RETURN = b"\x00", b"\x01", b"\x03", b"\x2a", b"\x57", b"\xb1"
@@ -46,10 +47,6 @@ def class_file(named, others, methods, fields=(), name=b"K"):
 
 def static(name, code, max_stack=1):
     return (name, STATIC, max_stack, 0, code)
-
-
-def at(index):
-    return struct.pack(">H", index)
 
 
 CALLS = 16_383

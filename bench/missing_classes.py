@@ -2,7 +2,7 @@
 `bench/hostile`. The frame that comes has the class K in local 0, and the declared frames have Y there."""
 import struct
 
-from class_bytes import POOL, class_file, handler, method, stack_map
+from class_bytes import POOL, Constants, class_file, class_of_members, code_attribute, handler, member, method, stack_map
 
 RETURN, NOP, ICONST_0 = b"\xb1", b"\x00", b"\x03"
 INT = b"\x01"
@@ -74,6 +74,40 @@ def handlers_in_turn(count, locals_given):
     return made(RETURN + NOP + RETURN * count, locals_given, entries, table), refused(1)
 
 
+class Differing:
+    """Frames of so many locals that want an Object, after which each wants an absent class, Y and Z in turn. Between them are frames without the last
+    local, and in front of all one of so many locals of K."""
+
+    def __init__(self, count, locals_given, wanted):
+        self.constants = Constants()
+        own, wanted, *absent = [b"\x07" + struct.pack(">H", self.constants.class_of(it)) for it in (b"K", wanted, b"Y", b"Z")]
+        self.max_locals = locals_given + 1
+        self.first = all_of(1, own * self.max_locals)
+        self.wanting = lambda delta, stack=b"": all_of(delta, wanted * locals_given + absent[0], stack)
+        self.appending = [b"\xfc\x00\x00" + absent[i % 2] for i in range(1, count)]
+
+    def made(self, code, entries, handlers=()):
+        body = code_attribute(self.constants, code, 1, self.max_locals, [self.first, *entries], handlers)
+        return class_of_members(self.constants, b"K", methods=[member(self.constants, 9, b"m0", b"()V", body)])
+
+
+def targets_that_differ_there(cases, count, locals_given, wanted=b"java/lang/Object"):
+    """A switch to so many such frames."""
+    frames, behind = Differing(count, locals_given, wanted), 16 + 4 * cases
+    to = b"".join(struct.pack(">i", behind + 2 * (i % count) - 2) for i in range(cases))
+    code = RETURN + ICONST_0 + b"\xaa\x00" + struct.pack(">iii", behind - 2, 0, cases - 1) + to + RETURN * (2 * count - 1)
+    later = [it for entry in frames.appending for it in (CHOP_ONE, entry)]
+    return frames.made(code, [frames.wanting(behind - 2), *later]), refused(2)
+
+
+def handlers_that_differ_there(count, locals_given, wanted=b"java/lang/Object"):
+    """An instruction under so many handlers of such frames."""
+    frames = Differing(count, locals_given, wanted)
+    later = [it for entry in frames.appending for it in (CHOP_ONE, entry, TOP_ON_STACK)]
+    table = [handler(1, 2, 2 + 3 * i) for i in range(count)]
+    return frames.made(RETURN * (3 * count), [frames.wanting(0, b"\x00"), *later], table), refused(1)
+
+
 # by name: a file, and what is printed
 FILES = {
     "a switch to 1,500 frames of 65,000 locals that ask for a missing class": lambda: targets(15000, 1500, 65000, [b"\x00"]),
@@ -82,4 +116,7 @@ FILES = {
     "2,700 such handlers whose frames have a local more each": lambda: appending_handlers(2700, 60000),
     "a switch to 1,500 frames of two kinds in turn, of 20,000 locals that ask for a missing class": lambda: targets_in_turn(15000, 1500, 20000),
     "4,000 handlers of two such frames of 20,000 locals in turn": lambda: handlers_in_turn(4000, 20000),
+    "a switch to 4,000 frames of 60,001 locals, which ask in turn for two missing classes in the last one": lambda: targets_that_differ_there(14_000, 4_000, 60_000),
+    "a switch to 4,000 frames of 16 locals, which ask in turn for two missing classes in the last one": lambda: targets_that_differ_there(14_000, 4_000, 15),
+    "4,000 handlers of frames of 60,001 locals, which ask in turn for two missing classes in the last one": lambda: handlers_that_differ_there(4_000, 60_000),
 }

@@ -1,4 +1,4 @@
-"""Times programs, one process a file. Times are of the whole process, from fork to exit."""
+"""Times programs, one process a file. Times are of the whole process, from fork to exit, or those of the processor."""
 import os
 import pathlib
 import time
@@ -6,13 +6,25 @@ import time
 PROGRAM = str(pathlib.Path(__file__).resolve().parent.parent / "crates/classck/out/classck")
 
 
-def run(words):
-    """Runs a program with its output thrown away; gives its status, seconds and largest memory in KB."""
+def ended(words):
+    """Runs a program with its output thrown away; gives its status, seconds, and what it used."""
     null = [(os.POSIX_SPAWN_OPEN, 1, "/dev/null", os.O_WRONLY, 0), (os.POSIX_SPAWN_OPEN, 2, "/dev/null", os.O_WRONLY, 0)]
     start = time.perf_counter()
     child = os.posix_spawn(words[0], words, os.environ, file_actions=null)
     _, status, usage = os.wait4(child, 0)
-    return os.waitstatus_to_exitcode(status), time.perf_counter() - start, usage.ru_maxrss
+    return os.waitstatus_to_exitcode(status), time.perf_counter() - start, usage
+
+
+def run(words):
+    """Runs a program with its output thrown away; gives its status, seconds and largest memory in KB."""
+    status, seconds, usage = ended(words)
+    return status, seconds, usage.ru_maxrss
+
+
+def used(words):
+    """The processor time in seconds, and the largest memory in KB, of a program whose output is thrown away."""
+    _, _, usage = ended(words)
+    return usage.ru_utime + usage.ru_stime, usage.ru_maxrss
 
 
 def measure(name, words, files, rounds=1):
