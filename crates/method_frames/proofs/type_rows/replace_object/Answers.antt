@@ -11,4 +11,4 @@ pub returns-clause-only : goal.returns-clause-only
 returns-clause-only c = replaces_whole c.args.object c.args.by c.args.rows.now c.replace.new.self c.replace.result c.replace.ensures.ok c.replace.ensures.err
 
 pub returns-clause-all : goal.returns-clause-all
-returns-clause-all c = on_ok_weaker c.replace.result _ _ (λ is. ap (λ (x : Rows). x.running) is) c.replace.ensures.ok
+returns-clause-all c = on_ok_weaker c.replace.result (λ is. ap (λ (x : Rows). x.running) is) c.replace.ensures.ok
