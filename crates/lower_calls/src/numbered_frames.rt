@@ -544,7 +544,8 @@ fn caught_at_5<'t, 'c, 'n, C: Classes>(
     Ok(frames)
 }
 
-/// Whether an exception is caught by a frame with one item that takes it, and a local of that frame takes its type.
+/// Whether an exception is caught by a frame with one item that takes it, a local of that frame takes its type, and its
+/// locals take those of the running frame.
 fn catches<C: Classes>(frames: &mut MethodFrames<'_, '_, '_, C>, n: Numbers) -> bool
     requires int { IsGiven frames.old.types n.int }
     requires ours { IsGiven frames.old.types n.ours }
@@ -553,7 +554,7 @@ fn catches<C: Classes>(frames: &mut MethodFrames<'_, '_, '_, C>, n: Numbers) -> 
     let caught = frames.answer_caught(0, n.ours) == Answer::Yes;
     let others = frames.answer_caught(0, n.int) == Answer::No;
     let takes = frames.takes(0, 1, n.ours) && frames.takes(0, 0, n.int);
-    caught && others && takes && !frames.takes(0, 1, n.int)
+    caught && others && takes && !frames.takes(0, 1, n.int) && frames.takes_locals(0)
 }
 
 fn is_caught<C: Classes>(alloc: Global, classes: &C) -> Result<bool, AllocError> {

@@ -194,6 +194,26 @@ fn changes_are_told(alloc: Global, count: u16, place: usize) -> Result<bool, All
     is_told(&mut arena, place)
 }
 
+/// Whether 9 takes the place of 5 throughout the running row, whose last slot this is, and not in a declared one that
+/// holds the same; and does so again where that one is taken on.
+fn is_replaced(arena: &mut Arena, row: Row, last: usize) -> Result<bool, AllocError>
+    requires { row < length arena.old.declared }
+{
+    arena.replace(5, 9)?;
+    let first = [running(arena, 0), running(arena, last)];
+    let stays = declared(arena, row, last) == Some(5);
+    arena.take(row);
+    arena.replace(5, 9)?;
+    let again = [running(arena, 0), running(arena, last)];
+    Ok(first == [Some(9), Some(9)] && again == first && stays && arena.has_room())
+}
+
+fn numbers_are_replaced(alloc: Global, count: u16) -> Result<bool, AllocError> {
+    let mut arena = filled(alloc, count, 5)?;
+    let row = arena.declare()?;
+    is_replaced(&mut arena, row, usize::from(count.saturating_sub(1)))
+}
+
 /// Whether an arena begins anew.
 fn begins_anew(alloc: Global) -> Result<bool, AllocError> {
     let mut arena = filled(alloc, 300, 5)?;
@@ -214,7 +234,8 @@ fn rows_are_kept(alloc: Global) -> Result<bool, AllocError> {
 fn all_hold(alloc: Global) -> Result<bool, AllocError> {
     let rows = rows_are_kept(alloc)? && top_is_wanted(alloc)?;
     let changes = changes_are_told(alloc, 17, 16)? && changes_are_told(alloc, 5000, 4100)?;
-    Ok(rows && changes && what_was_said_is_kept(alloc)? && begins_anew(alloc)?)
+    let replaced = numbers_are_replaced(alloc, 9)? && numbers_are_replaced(alloc, 5000)?;
+    Ok(rows && changes && replaced && what_was_said_is_kept(alloc)? && begins_anew(alloc)?)
 }
 
 #[test]
