@@ -190,6 +190,28 @@ impl Representatives {
     }
 
     /// Whether each local variable of the running frame that is not as it was kept may stand for that of the frame of
+    /// each; none where more than [`FEW_CHANGES`] are not.
+    fn take_few<C: Classes>(&self, frames: &MethodFrames<'_, '_, '_, C>) -> Option<bool>
+        requires representatives { AreRepresentatives frames.now.declared self.now }
+        ensures taken { let x = frames.now in IfSome result (λ all. IsTrue all → (f : ℕ)
+            → 0 < slice_index self.now.until.items f → TakesChanges x f (length x.running.locals)) }
+        ensures even { length frames.now.kept ≡ length frames.now.running.locals }
+    {
+        let (mut from, mut left) = (0, FEW_CHANGES);
+        while let Some(place) = frames.first_changed(from) {
+            if left == 0 {
+                return None;
+            }
+            if !self.all_take(place, frames.local(place), frames) {
+                return Some(false);
+            }
+            from = place + 1;
+            left -= 1;
+        }
+        Some(true)
+    }
+
+    /// Whether each local variable of the running frame that is not as it was kept may stand for that of the frame of
     /// each. Where many changed, the frames are compared as a whole, which takes time for blocks of local variables and
     /// not for each of them.
     pub fn take_changes<C: Classes>(&self, frames: &mut MethodFrames<'_, '_, '_, C>) -> bool
@@ -197,20 +219,12 @@ impl Representatives {
         ensures same { frames.new ≡ frames.old }
         ensures taken { let x = frames.old in IsTrue result → (f : ℕ) → 0 < slice_index self.now.until.items f
             → TakesChanges x f (length x.running.locals) }
-        ensures even { IsTrue result → length frames.old.kept ≡ length frames.old.running.locals }
+        ensures even { length frames.old.kept ≡ length frames.old.running.locals }
     {
-        let (mut from, mut left) = (0, FEW_CHANGES);
-        while let Some(place) = frames.first_changed(from) {
-            if left == 0 {
-                return self.all_take_frame(frames);
-            }
-            if !self.all_take(place, frames.local(place), frames) {
-                return false;
-            }
-            from = place + 1;
-            left -= 1;
+        match self.take_few(frames) {
+            Some(taken) => taken,
+            None => self.all_take_frame(frames),
         }
-        true
     }
 
     /// Takes those out that stand for others up to an offset, in bytes, or less far.

@@ -10,4 +10,4 @@ returns-then-is_empty-clause-taken g c = λ t es at k. none_settled c.args.frame
 
 pub returns-then-flag-self-clause-taken : goal.returns-then-flag-self-clause-taken
 returns-then-flag-self-clause-taken g c = λ t es at k.
-    changes_settled c.args.frames.now es at c.args.self.now k (sym c.flag.ensures ∙ same_flag c.flag.result c.args.self.now.flag c.if-flag-self.true) (sym (c.take_changes.ensures.even t)) (c.take_changes.ensures.taken t)
+    changes_settled c.args.frames.now es at c.args.self.now k (sym c.flag.ensures ∙ same_flag c.flag.result c.args.self.now.flag c.if-flag-self.true) (sym c.take_changes.ensures.even) (c.take_changes.ensures.taken t)

@@ -9,7 +9,7 @@ pub takes_locals-requires : goal.takes_locals-requires
 takes_locals-requires g c =
     let rs = c.args.self.now.list.items in
     let here = slice_get_read rs (length rs) c.loop-i.i c.index.result.now refl (omega (arith, c.loop-i-test.true, c.len-i-end.ensures, c.args.self.now.list.ok.0)) c.index.ensures in
-    subst (λ (x : NumberedFrames). c.index.result.now.frame < length x.declared) (sym c.loop-i.invariant.same) (c.requires.within c.loop-i.i c.index.result.now here).declared
+    record { frame = subst (λ (x : NumberedFrames). c.index.result.now.frame < length x.declared) (sym c.loop-i.invariant.same) (c.requires.representatives.within c.loop-i.i c.index.result.now here).declared }
 
 pub loop-i-preserved : goal.loop-i-preserved
 loop-i-preserved g c =
@@ -21,7 +21,7 @@ loop-i-preserved g c =
       taken =
           frames_more x rs c.loop-i.i c.index.result.now here c.loop-i.invariant.taken
           (subst (λ (y : NumberedFrames). TakesChanges y c.index.result.now.frame (length y.running.locals)) c.loop-i.invariant.same
-          (λ place lt. inr (c.takes_locals.ensures.taken (c.if-not-takes_locals.ensures refl) place lt)));
+          (λ place lt. inr (c.if-not-takes_locals.ensures.taken refl place lt)));
     }
 
 pub returns-clause-taken : goal.returns-clause-taken
