@@ -3,6 +3,7 @@ from dataclasses import replace
 
 from rows.verify.handlers import with_handlers
 from rows.verify.objects import with_objects
+from rows.verify.opcodes import with_opcodes
 from rows.verify.protected import with_protected
 from rows.verify.references import with_references
 from tools.assembler import NATIVE, OBJECT, STATIC, attribute, code_of, integer, long, name_and_type, named, reference, utf8
@@ -243,5 +244,5 @@ def hierarchies():
 
 def verified():
     """A name for each list of files, their bytes, and the line of it."""
-    for table in (verdicts, mapped_verdicts, with_references, with_objects, with_protected, with_handlers, without_code, hierarchies):
+    for table in (verdicts, mapped_verdicts, with_references, with_objects, with_protected, with_handlers, with_opcodes, without_code, hierarchies):
         yield from table()
