@@ -2,6 +2,7 @@
 from dataclasses import replace
 
 from rows.verify.handlers import with_handlers
+from rows.verify.limits import with_limits
 from rows.verify.local_variables import with_local_variables
 from rows.verify.objects import with_objects
 from rows.verify.opcodes import with_opcodes
@@ -245,5 +246,7 @@ def hierarchies():
 
 def verified():
     """A name for each list of files, their bytes, and the line of it."""
-    for table in (verdicts, mapped_verdicts, with_references, with_objects, with_protected, with_handlers, with_opcodes, with_local_variables, without_code, hierarchies):
+    for table in (verdicts, mapped_verdicts, with_references, with_objects, with_protected, with_handlers, without_code, hierarchies):
+        yield from table()
+    for table in (with_opcodes, with_local_variables, with_limits):
         yield from table()
