@@ -168,7 +168,8 @@ def handlers():
         constants = Constants("()V")
         nested = [attribute(constants.text("StackMapTable"), stack_map_of("1 same1 class java/lang/Throwable", constants.owner))]
         method = method_f(code_f(b"\xb1\xbf", stack=1, handlers=[*entries, last], nested=nested), flags=STATIC)
-        yield f"{LARGEST} entries, the last of which is {last}", [replace(K, constants=constants.items, methods=[method]).data(), *KNOWN], f"method f ()V {verdict}"
+        k = replace(K, constants=constants.items, methods=[method])
+        yield f"{LARGEST} entries, the last of which is {last}", [k.data(), *KNOWN], f"method f ()V {verdict}"
 
 
 def with_limits():

@@ -4,9 +4,8 @@ Frames say where a local variable stands, so that an instruction of any form tha
 alone, between others; after a store the declared frame has the type there, and all others as they were. The last local variable that there is, and
 the one after it, are named too.
 """
-from rows.known import KNOWN
-from rows.verify.play import class_of
-from tools.assembler import STATIC, code_of
+from rows.verify.cases import Cases
+from tools.assembler import code_of
 
 # The type by the letter of an instruction: its words in a frame, and how many units it takes.
 TYPES = {"i": ("int", 1), "l": ("long", 2), "f": ("float", 1), "d": ("double", 2), "a": ("class A", 1)}
@@ -50,20 +49,9 @@ def width(variables):
     return sum(2 if it in ("long", "double") else 1 for it in variables)
 
 
-class Cases:
-    """The methods of a class, and the lines of `verify`."""
-
-    def __init__(self):
-        self.methods, self.lines = [], []
-
-    def add(self, what, variables, code, verdict, *frames):
-        """A static method without parameters, with so many units of local variables; its code begins after a return, at 1, where a frame says what is there."""
-        name = f"{what} {len(self.methods)}"
-        self.methods.append((STATIC, name, "()V", 2, variables, f"return; {code}", "; ".join(frames)))
-        self.lines.append(f"method {name} ()V {verdict}")
-
-    def row(self, what):
-        return what, [class_of("K", *self.methods), *KNOWN], "\n".join(self.lines)
+def add(cases, what, variables, code, verdict, *frames):
+    """A case without parameters and with so many units of local variables. Its code begins at 1, after a return, with the first frame."""
+    cases.add(what, "()V", (2, variables), f"return; {code}", verdict, "; ".join(frames))
 
 
 def add_loads(cases, letter, words, index):
@@ -71,10 +59,10 @@ def add_loads(cases, letter, words, index):
     units = TYPES[letter][1]
     code = f"{words}; putstatic [field K x {FIELDS[letter]}]; return"
     held, strange = locals_of(letter, index), around(letter, index)
-    cases.add(f"{index} is loaded", width(held), code, "verified", frame(1, held))
-    cases.add(f"{index} is the last", index + units, code, "verified", frame(1, held[:-1]))
-    cases.add(f"{index} is of another type", width(strange), code, "refused 63 at 1", frame(1, strange))
-    cases.add(f"{index} is past the last", index + units - 1, code, "refused 64 at 1", frame(1, held[:-2]))
+    add(cases, f"{index} is loaded", width(held), code, "verified", frame(1, held))
+    add(cases, f"{index} is the last", index + units, code, "verified", frame(1, held[:-1]))
+    add(cases, f"{index} is of another type", width(strange), code, "refused 63 at 1", frame(1, strange))
+    add(cases, f"{index} is past the last", index + units - 1, code, "refused 64 at 1", frame(1, held[:-2]))
 
 
 def add_stores(cases, letter, words, index):
@@ -84,28 +72,28 @@ def add_stores(cases, letter, words, index):
     front, back = [other(letter)] * index, [other(letter)] * units
     stored = [*front, name, other(letter)]
     before = frame(1, [*front, *back, other(letter)], name)
-    cases.add(f"{index} is stored", width(stored), code, "verified", before, frame(1 + size, stored))
-    cases.add(f"{index} is the last", index + units, code, "verified", frame(1, [*front, *back], name), frame(1 + size, stored[:-1]))
-    cases.add(f"{index} is as before", width(stored), code, f"refused 69 at {1 + size}", before, frame(1 + size, [*front, other(letter)]))
-    cases.add(f"{index} is past the last", index + units - 1, code, "refused 64 at 1", frame(1, [*front, *back[1:]], name))
+    add(cases, f"{index} is stored", width(stored), code, "verified", before, frame(1 + size, stored))
+    add(cases, f"{index} is the last", index + units, code, "verified", frame(1, [*front, *back], name), frame(1 + size, stored[:-1]))
+    add(cases, f"{index} is as before", width(stored), code, f"refused 69 at {1 + size}", before, frame(1 + size, [*front, other(letter)]))
+    add(cases, f"{index} is past the last", index + units - 1, code, "refused 64 at 1", frame(1, [*front, *back[1:]], name))
     if units == 2:
         gone = [*front, "top", other(letter)]
-        cases.add(f"{index} and its second half", width(stored), code, f"refused 69 at {1 + size}", before, frame(1 + size, gone))
+        add(cases, f"{index} and its second half", width(stored), code, f"refused 69 at {1 + size}", before, frame(1 + size, gone))
     if index:
         half = [*front[:-1], "long", *back]
-        cases.add(f"{index} was the second half", width(stored), code, f"refused 69 at {1 + size}", frame(1, half, name), frame(1 + size, [*front[:-1], "long"]))
-        rest = [*front[:-1], "top", name]
-        cases.add(f"{index} was the second half", width(stored), code, "verified", frame(1, half, name), frame(1 + size, rest))
+        kept, lost = [*front[:-1], "long"], [*front[:-1], "top", name]
+        add(cases, f"{index} was the second half", width(stored), code, f"refused 69 at {1 + size}", frame(1, half, name), frame(1 + size, kept))
+        add(cases, f"{index} was the second half", width(stored), code, "verified", frame(1, half, name), frame(1 + size, lost))
 
 
 def add_increments(cases, words, index):
     """The cases of an iinc that names this index."""
     size = len(code_of(words))
     held, strange = locals_of("i", index), around("i", index)
-    cases.add(f"{index} is counted up", width(held), f"{words}; return", "verified", frame(1, held), frame(1 + size, held))
-    cases.add(f"{index} is the last", index + 1, f"{words}; return", "verified", frame(1, held[:-1]))
-    cases.add(f"{index} is of another type", width(strange), f"{words}; return", "refused 63 at 1", frame(1, strange))
-    cases.add(f"{index} is past the last", index, f"{words}; return", "refused 64 at 1", frame(1, held[:-2]))
+    add(cases, f"{index} is counted up", width(held), f"{words}; return", "verified", frame(1, held), frame(1 + size, held))
+    add(cases, f"{index} is the last", index + 1, f"{words}; return", "verified", frame(1, held[:-1]))
+    add(cases, f"{index} is of another type", width(strange), f"{words}; return", "refused 63 at 1", frame(1, strange))
+    add(cases, f"{index} is past the last", index, f"{words}; return", "refused 64 at 1", frame(1, held[:-2]))
 
 
 def accesses():
@@ -116,8 +104,8 @@ def accesses():
             for index in indices:
                 add_loads(loads, letter, pattern.format(f"{letter}load", index), index)
                 add_stores(stores, letter, pattern.format(f"{letter}store", index), index)
-            yield loads.row(f"each case of {letter}load in its {form} form")
-            yield stores.row(f"each case of {letter}store in its {form} form")
+            yield loads.row(f"{letter}load in its {form} form")
+            yield stores.row(f"{letter}store in its {form} form")
 
 
 def increments():
@@ -128,7 +116,7 @@ def increments():
             add_increments(cases, pattern.format("iinc", index) + " 1", index)
         for constant in CONSTANTS if form == "wide" else CONSTANTS[2:4]:
             add_increments(cases, pattern.format("iinc", 2) + f" {constant}", 2)
-        yield cases.row(f"each case of iinc in its {form} form")
+        yield cases.row(f"iinc in its {form} form")
 
 
 def last_ones():
@@ -138,19 +126,19 @@ def last_ones():
         for index in (32_767, 32_768, LARGEST - units):
             code = f"{ZEROS[letter]}; wide {letter}store {index}; wide {letter}load {index}; putstatic [field K x {FIELDS[letter]}]; return"
             load = f"wide {letter}load {index}; return"
-            cases.add(f"{index} is stored and loaded", index + units, code, "verified", "1 same")
-            cases.add(f"{index} is past the last, and stored", index + units - 1, code, "refused 64 at 2", "1 same")
-            cases.add(f"{index} is past the last, and loaded", index + units - 1, load, "refused 64 at 1", "1 same")
-            cases.add(f"{index} is loaded, and not stored", LARGEST, load, "refused 63 at 1", "1 same")
+            add(cases, f"{index} is stored and loaded", index + units, code, "verified", "1 same")
+            add(cases, f"{index} is past the last, and stored", index + units - 1, code, "refused 64 at 2", "1 same")
+            add(cases, f"{index} is past the last, and loaded", index + units - 1, load, "refused 64 at 1", "1 same")
+            add(cases, f"{index} is loaded, and not stored", LARGEST, load, "refused 63 at 1", "1 same")
         past = LARGEST - units + 1
-        cases.add(f"{past} is stored", LARGEST, f"{ZEROS[letter]}; wide {letter}store {past}; return", "refused 64 at 2", "1 same")
-        cases.add(f"{past} is loaded", LARGEST, f"wide {letter}load {past}; return", "refused 64 at 1", "1 same")
+        add(cases, f"{past} is stored", LARGEST, f"{ZEROS[letter]}; wide {letter}store {past}; return", "refused 64 at 2", "1 same")
+        add(cases, f"{past} is loaded", LARGEST, f"wide {letter}load {past}; return", "refused 64 at 1", "1 same")
     for index in (32_767, 32_768, LARGEST - 1):
         code = f"iconst_0; wide istore {index}; wide iinc {index} -1; wide iload {index}; putstatic [field K x I]; return"
-        cases.add(f"{index} is counted down", index + 1, code, "verified", "1 same")
-        cases.add(f"{index} is past the last, and counted down", index, f"wide iinc {index} -1; return", "refused 64 at 1", "1 same")
-    cases.add(f"{LARGEST} is counted down", LARGEST, f"wide iinc {LARGEST} -1; return", "refused 64 at 1", "1 same")
-    yield cases.row("each case of the last local variable")
+        add(cases, f"{index} is counted down", index + 1, code, "verified", "1 same")
+        add(cases, f"{index} is past the last, and counted down", index, f"wide iinc {index} -1; return", "refused 64 at 1", "1 same")
+    add(cases, f"{LARGEST} is counted down", LARGEST, f"wide iinc {LARGEST} -1; return", "refused 64 at 1", "1 same")
+    yield cases.row("the last local variable")
 
 
 def with_local_variables():

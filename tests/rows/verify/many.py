@@ -1,5 +1,5 @@
-"""Very many classes in one call, most of them below one another, and what classck says of them: JVMS 4.1, 4.10.1.2 and 5.3.5, and docs/REFUSALS.md for
-the number of classes that a hierarchy may have.
+"""Very many classes in one call, most of them below one another, and what classck says of them: JVMS 4.1, 4.10.1.2 and 5.3.5, and docs/REFUSALS.md
+for the number of classes that a hierarchy may have.
 
 The files are written once, since there are 65,536 of them: Object in the file 0, and in each other one a class below that of the file before it.
 """
@@ -76,7 +76,8 @@ def chains():
         yield f"a class below {number} others", ["verify", f"J{number}", *known], "".join(f"{it}\n" for it in text)
     for number in CHAINS[1:-1]:
         known = numbers(0, number // 2 - 1) + numbers(number // 2 + 1, number)
-        yield f"a class below {number} others, of which one is not there", ["verify-each", f"J{number}", "--known", *known], told([("J", ["class refused 80"])])
+        words = ["verify-each", f"J{number}", "--known", *known]
+        yield f"a class below {number} others, of which one is not there", words, told([("J", ["class refused 80"])])
 
 
 def lists():

@@ -2,9 +2,8 @@
 
 Each opcode has a class, and each of its cases a method, so that one call shows the opcode beside its neighbours.
 """
-from rows.known import KNOWN
-from rows.verify.play import class_of
-from tools.assembler import STATIC, code_of
+from rows.verify.cases import Cases
+from tools.assembler import code_of
 
 # The types of operands that are tried in the place of each operand.
 TYPES = ["I", "J", "F", "D", "LA;", "[Z", "[C", "[F", "[D", "[B", "[S", "[I", "[J", "[LA;", "[[I"]
@@ -216,22 +215,10 @@ def puts(types):
     return "; ".join(f"putstatic [field K x {it}]" for it in reversed(types))
 
 
-class Cases:
-    """The methods of the class of an opcode, and the lines of `verify`."""
-
-    def __init__(self):
-        self.methods, self.lines = [], []
-
-    def add(self, what, types, stack, code, verdict, body="", result="V"):
-        """A static method with these parameters, which it loads before the code."""
-        descriptor = f"({''.join(types)}){result}"
-        name = f"{what} {len(self.methods)}"
-        text = "; ".join(it for it in (loads(types), code) if it)
-        self.methods.append((STATIC, name, descriptor, stack, width(types), text, *([body] if body else [])))
-        self.lines.append(f"method {name} {descriptor} {verdict}")
-
-    def files(self):
-        return [class_of("K", *self.methods), *KNOWN]
+def add(cases, what, types, stack, code, verdict, body="", result="V"):
+    """A case with these parameters, which it loads before the code."""
+    text = "; ".join(it for it in (loads(types), code) if it)
+    cases.add(what, f"({''.join(types)}){result}", (stack, width(types)), text, verdict, body)
 
 
 def lines_of(table):
@@ -259,25 +246,25 @@ def code_for(words, leaves):
 
 def add_taken(cases, words, takes, leaves):
     """The case of an instruction that takes these types and leaves those."""
-    cases.add("taken", takes, max(width(takes), width(leaves)), code_for(words, leaves), "verified")
+    add(cases, "taken", takes, max(width(takes), width(leaves)), code_for(words, leaves), "verified")
 
 
 def add_bounds(cases, words, takes, leaves):
     """The cases of less on the stack, of less room, and of another type that is left."""
     at, stack = 2 * len(takes), max(width(takes), width(leaves))
     if takes:
-        cases.add("one less", takes[1:], stack, code_for(words, leaves), f"refused 61 at {at - 2}")
+        add(cases, "one less", takes[1:], stack, code_for(words, leaves), f"refused 61 at {at - 2}")
     if width(leaves) > width(takes):
-        cases.add("one unit less", takes, stack - 1, code_for(words, leaves), f"refused 65 at {at}")
+        add(cases, "one unit less", takes, stack - 1, code_for(words, leaves), f"refused 65 at {at}")
     for it in ("I", "J", "F", "D", "LA;", "[LA;") if leaves else ():
         if it != leaves[-1]:
-            cases.add("left as another", takes, stack, code_for(words, [it]), f"refused 62 at {at + size_of(words)}")
+            add(cases, "left as another", takes, stack, code_for(words, [it]), f"refused 62 at {at + size_of(words)}")
 
 
 def add_wrong(cases, words, takes, leaves, all_taken):
     """The cases of one operand of another type."""
     for types in wrong_types(takes, all_taken):
-        cases.add("of another type", types, width(types) + 2, code_for(words, leaves), f"refused 62 at {2 * len(takes)}")
+        add(cases, "of another type", types, width(types) + 2, code_for(words, leaves), f"refused 62 at {2 * len(takes)}")
 
 
 def size_of(words):
@@ -305,7 +292,7 @@ def moves():
         cases = Cases()
         for takes, leaves in parts:
             if leaves == ["62"]:
-                cases.add("in two halves", takes, 9, f"{words}; return", f"refused 62 at {2 * len(takes)}")
+                add(cases, "in two halves", takes, 9, f"{words}; return", f"refused 62 at {2 * len(takes)}")
             else:
                 add_taken(cases, words, takes, leaves)
                 add_bounds(cases, words, takes, leaves)
@@ -328,17 +315,17 @@ def add_targets(cases, words, takes):
     code, after = branching(words, at)
     no_frame, stack = f"refused 67 at {at}", max(1, width(takes))
     alone = no_frame if is_switch else "verified" if goes_on else f"refused 70 at {after}"
-    cases.add("both frames", takes, stack, code, "verified", f"{after} same; {after + 1} same")
-    cases.add("no frame after it", takes, stack, code, alone, f"{after + 1} same")
-    cases.add("no frame at its target", takes, stack, code, no_frame, f"{after} same")
-    cases.add("an operand more at its target", takes, stack, code, f"refused 68 at {at}", f"{after} same; {after + 1} same1 int")
-    cases.add("no frames", takes, stack, code, no_frame)
+    add(cases, "both frames", takes, stack, code, "verified", f"{after} same; {after + 1} same")
+    add(cases, "no frame after it", takes, stack, code, alone, f"{after + 1} same")
+    add(cases, "no frame at its target", takes, stack, code, no_frame, f"{after} same")
+    add(cases, "an operand more at its target", takes, stack, code, f"refused 68 at {at}", f"{after} same; {after + 1} same1 int")
+    add(cases, "no frames", takes, stack, code, no_frame)
 
 
 def add_refused(cases, words, types, number):
     """A case of a branch whose operands have these types, which are others than it takes, or fewer."""
     code, after = branching(words, 2 * len(types))
-    cases.add("of other types", types, width(types) + 1, code, f"refused {number} at {2 * len(types)}", f"{after} same; {after + 1} same")
+    add(cases, "of other types", types, width(types) + 1, code, f"refused {number} at {2 * len(types)}", f"{after} same; {after + 1} same")
 
 
 def branching(words, at):
@@ -355,7 +342,7 @@ def branches():
         add_targets(cases, words, all_taken[0])
         for types in all_taken[1:]:
             code, after = branching(words, 2 * len(types))
-            cases.add("taken", types, width(types), code, "verified", f"{after} same; {after + 1} same")
+            add(cases, "taken", types, width(types), code, "verified", f"{after} same; {after + 1} same")
         if all_taken[0]:
             add_refused(cases, words, all_taken[0][1:], 61)
         for types in wrong_types(all_taken[0], all_taken):
@@ -370,30 +357,30 @@ def returns():
         for result in RESULTS:
             types = [] if words == "return" else [result if result in results else list(results)[0]]
             at = 2 * len(types)
-            cases.add("its result", types, 2, words, "verified" if result in results else f"refused 76 at {at}", result=result)
+            add(cases, "its result", types, 2, words, "verified" if result in results else f"refused 76 at {at}", result=result)
         first = list(results)[0]
         types = [] if words == "return" else [first]
-        cases.add("nothing goes on", types, 2, f"{words}; return", f"refused 70 at {2 * len(types) + 1}", result=first)
+        add(cases, "nothing goes on", types, 2, f"{words}; return", f"refused 70 at {2 * len(types) + 1}", result=first)
         if types:
-            cases.add("one less", [], 2, words, "refused 61 at 0", result=first)
+            add(cases, "one less", [], 2, words, "refused 61 at 0", result=first)
             for it in TYPES:
                 if letter(it) != letter(first):
-                    cases.add("of another type", [it], 2, words, "refused 62 at 2", result=first)
+                    add(cases, "of another type", [it], 2, words, "refused 62 at 2", result=first)
         yield words, cases
 
 
 def others():
     """An athrow, and the instructions that have no rule."""
     cases = Cases()
-    cases.add("taken", ["Ljava/lang/Throwable;"], 1, "athrow", "verified")
-    cases.add("nothing goes on", ["Ljava/lang/Throwable;"], 1, "athrow; return", "refused 70 at 3")
-    cases.add("one less", [], 1, "athrow", "refused 61 at 0")
+    add(cases, "taken", ["Ljava/lang/Throwable;"], 1, "athrow", "verified")
+    add(cases, "nothing goes on", ["Ljava/lang/Throwable;"], 1, "athrow; return", "refused 70 at 3")
+    add(cases, "one less", [], 1, "athrow", "refused 61 at 0")
     for it in (*TYPES, "Ljava/lang/Object;"):
-        cases.add("of another type", [it], 2, "athrow", "refused 62 at 2")
+        add(cases, "of another type", [it], 2, "athrow", "refused 62 at 2")
     yield "athrow", cases
     cases = Cases()
     for words, body in (("jsr 3", ""), ("jsr 3", "5 same1 int"), ("jsr_w 5", ""), ("jsr_w 5", "7 same1 int"), ("ret 0", ""), ("wide ret 0", "")):
-        cases.add("without a rule", ["I"], 2, f"{words}; return", "refused 60 at 2", body)
+        add(cases, "without a rule", ["I"], 2, f"{words}; return", "refused 60 at 2", body)
     yield "jsr, jsr_w and ret", cases
 
 
@@ -401,4 +388,4 @@ def with_opcodes():
     """A name for each opcode with its cases, the files, and the lines of their verdicts."""
     for table in (rules, moves, branches, returns, others):
         for words, cases in table():
-            yield f"each case of {words}", cases.files(), "\n".join(cases.lines)
+            yield cases.row(words)
