@@ -85,6 +85,15 @@ def behind_wide():
             yield code, refused(34, 0)
 
 
+def wide_indices():
+    """Each opcode after `wide`, with local variables at the limits of one and of two bytes, and with the limits of what iinc adds."""
+    for name in WIDE:
+        for index in (0, 1, 254, 255, 256, 257, 32_767, 32_768, 65_534, 65_535):
+            for constant in (-32_768, -129, -1, 0, 128, 32_767) if name == "iinc" else ("",):
+                words = f"wide {name} {index} {constant}".strip()
+                yield code_of(words), [f"0 {words}"]
+
+
 def shown():
     """Code, and its lines; the first says so where it is refused."""
     for text, lines in LISTED:
@@ -93,3 +102,4 @@ def shown():
         yield code_of(text), refused(number, at)
     yield from shortest()
     yield from behind_wide()
+    yield from wide_indices()

@@ -11,6 +11,7 @@ ROWS = """
 ()LA; 1 0 | aconst_null; areturn | verified
 ()[I 1 0 | aconst_null; areturn | verified
 ()I 1 0 | aconst_null; ireturn | refused 62 at 1
+()V 0 0 | aconst_null; pop; return | refused 65 at 0
 (LA;)LA; 1 1 | aload_0; areturn | verified
 (LC;)LA; 1 1 | aload_0; areturn | verified
 (LA;)LC; 1 1 | aload_0; areturn | refused 62 at 1

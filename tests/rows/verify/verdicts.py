@@ -2,7 +2,10 @@
 from dataclasses import replace
 
 from rows.verify.handlers import with_handlers
+from rows.verify.limits import with_limits
+from rows.verify.local_variables import with_local_variables
 from rows.verify.objects import with_objects
+from rows.verify.opcodes import with_opcodes
 from rows.verify.protected import with_protected
 from rows.verify.references import with_references
 from tools.assembler import NATIVE, OBJECT, STATIC, attribute, code_of, integer, long, name_and_type, named, reference, utf8
@@ -244,4 +247,6 @@ def hierarchies():
 def verified():
     """A name for each list of files, their bytes, and the line of it."""
     for table in (verdicts, mapped_verdicts, with_references, with_objects, with_protected, with_handlers, without_code, hierarchies):
+        yield from table()
+    for table in (with_opcodes, with_local_variables, with_limits):
         yield from table()
