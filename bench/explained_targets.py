@@ -24,7 +24,7 @@ def lacking(come):
 
 
 def told(kind, at, sizes, instruction, come, place, behind, where="local 0"):
-    """What is printed where the type that comes is not assignable to float, or it is not known whether it is to what is lacking."""
+    """The lines where the type that comes is not assignable to float, or where a class that is lacking leaves it open."""
     name = "Class " + come.decode()
     types = ", ".join([name] * (sizes[1] or sizes[0] - 1))
     frame_lines = [f"locals {types}", "stack" if behind else "stack int"] if sizes[1] else ["locals", f"stack {types}, int"]

@@ -40,7 +40,7 @@ class Covered:
         return self.places - 1
 
     def add_frame_anew(self, types):
-        """The same after a frame without locals, so that nothing is shared with a frame in front."""
+        """Such a frame after one without locals, so that it shares nothing with a frame in front."""
         self.add_frame([])
         return self.add_frame(types)
 
@@ -90,7 +90,7 @@ def casts(names, place=0):
 
 
 def loads(count, kinds=3):
-    """What locals 1, 2 and 3 hold is stored to local 0 in turn."""
+    """Stores to local 0 the values of locals 1, 2 and 3 in turn."""
     return lambda _: b"".join(ALOAD[1 + i % kinds] + ASTORE[0] for i in range(count))
 
 

@@ -149,13 +149,13 @@ HANDLERS, CALLS = 20_000, 16_000
 
 
 def row(act, pair):
-    """What makes the classes of a row from those that come and are wanted, its lines and its status."""
+    """The maker of a row's classes from those that come and are wanted, with its lines and its status."""
     come, wanted, known = pair
     return lambda: ([act(come, wanted), *map(interface, known)], *VERIFIED)
 
 
 def lacking_row(act, place, pair):
-    """The same where a class is missing, at this place."""
+    """Such a maker where a class is missing, at this place."""
     come, wanted, known, name = pair
     return lambda: ([act(come, wanted), *map(interface, known)], *missing(place, name))
 

@@ -10,7 +10,7 @@ MOST = 16777217
 UNNAMED = ["java/io/Serializable", *(f"java/lang/{it}" for it in ("Class", "Cloneable", "Object", "String", "Throwable", "invoke/MethodHandle", "invoke/MethodType"))]
 # The bytes of each constant with its tag; a text (1) has three, and as many more as its length says.
 SIZES = {3: 5, 4: 5, 5: 9, 6: 9, 7: 3, 8: 3, 9: 5, 10: 5, 11: 5, 12: 5, 15: 4, 16: 3, 17: 5, 18: 5, 19: 3, 20: 3}
-# What bytes that are no class file lead to.
+# The answers on bytes that are no class file.
 FAULTS = (IndexError, KeyError, TypeError, UnicodeDecodeError)
 # The names of packages that are looked for.
 NAME = re.compile(r"[\w$]+", re.ASCII)

@@ -61,7 +61,7 @@ def build():
 
 
 def call(*words):
-    """What the program prints on these words, the lines on standard error, and the status."""
+    """The lines that the program prints on these words, those on standard error, and the status."""
     with tempfile.TemporaryFile() as errors:
         process = begin(words, errors)
         with process.stdout as out:
@@ -122,7 +122,7 @@ def holds_another(name):
 
 
 class Head(collections.namedtuple("Head", "name above is_interface refusal")):
-    """What `show` says of a class: its name, that of its superclass, and whether it is an interface; or why it is refused."""
+    """A class as `show` has it: its name, that of its superclass, and whether it is an interface; or why it is refused."""
 
     def lacks(self, wanted):
         """Why no class loader finds the class of this name in the file; nothing where it finds it."""
@@ -146,7 +146,7 @@ class Verifier:
         self.flags = ["--dynamic"] if dynamic else []
 
     def head(self, file):
-        """What `show` says of the class in this file."""
+        """The class in this file, as `show` has it."""
         with self.lock:
             known = self.heads.get(file) or self.told(file)
         if known:

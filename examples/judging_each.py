@@ -82,7 +82,7 @@ class EachVerifier:
         return self.names_above[file]
 
     def head(self, file):
-        """What `show` would say of the class in this file, where a process has read it; nothing of an interface of arrays, which may be none."""
+        """The class in this file, as `show` would have it, where a process has read it; nothing of an interface of arrays, which may be none."""
         name, text = self.told.get(file, (OBJECT, ""))
         if file not in self.told or name in ARRAY_INTERFACES:
             return None

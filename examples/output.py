@@ -1,4 +1,4 @@
-"""What the scripts print: names with escapes, faults of a command line, and a quiet end where nobody reads on."""
+"""The output of the scripts: names with escapes, faults of a command line, and a quiet end where nobody reads on."""
 import argparse
 import os
 import re

@@ -43,7 +43,7 @@ pub struct Arena {
     kept: u32,
     count: usize,
     declared: Vec<u32>,
-    /// What came of shared nodes in which a number was replaced.
+    /// The outcomes of shared nodes in which a number was replaced.
     replacements: Replacements,
 }
 

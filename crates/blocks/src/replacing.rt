@@ -15,7 +15,7 @@ const MOST_MADE: usize = 0x4_0000;
 /// So many replacements are remembered at once.
 const MOST_KEPT: usize = 0x1_0000;
 
-/// What came of nodes above blocks in which a number was replaced. It is emptied where a method begins, and where it
+/// The outcomes of nodes above blocks in which a number was replaced. It is emptied where a method begins, and where it
 /// has [`MOST_KEPT`] entries.
 #[derive(Drop)]
 pub(crate) struct Replacements {

@@ -100,7 +100,7 @@ def limits():
 
 
 def many():
-    """What each row is, the words of the line, and the text."""
+    """Each row's name, the words of the line, and the text."""
     yield from lists()
     yield from limits()
     yield from chains()

@@ -9,7 +9,7 @@ from tools.assembler import code_of
 TYPES = ["I", "J", "F", "D", "LA;", "[Z", "[C", "[F", "[D", "[B", "[S", "[I", "[J", "[LA;", "[[I"]
 REFERENCES = [it for it in TYPES if it[0] in "L["]
 ARRAYS = [it for it in TYPES if it[0] == "["]
-# What follows the prefix of a mnemonic in arithmetic, for each kind of number.
+# The type of number for each prefix of a mnemonic of arithmetic.
 KINDS = {"i": "I", "l": "J", "f": "F", "d": "D"}
 NAMES_OF_TYPES = {"Z": "4", "C": "5", "F": "6", "D": "7", "B": "8", "S": "9", "I": "10", "J": "11"}
 
@@ -100,7 +100,7 @@ multianewarray [class [[I] 1 | I | [[I
 multianewarray [class [[I] 2 | I I | [[I
 """
 
-# Those that move items of the stack: what they take and leave, or the number that refuses them. A long and a double are two units.
+# The instructions that move items of the stack: what they take and leave, or the number that refuses them. A long and a double are two units.
 MOVES = """
 pop | I |
 pop | LA; |
@@ -287,7 +287,7 @@ def rules():
 
 
 def moves():
-    """Those that move items."""
+    """The instructions that move items."""
     for words, parts in lines_of(MOVES.strip().splitlines()).items():
         cases = Cases()
         for takes, leaves in parts:
