@@ -1,16 +1,22 @@
-"""The page of the first sentence of each file of definitions."""
+"""The page of the first sentence of each file of definitions, by whether a reader has to believe it."""
+import pathlib
 import re
 
 from making.crates import CRATES, crates
 
+LISTED = pathlib.Path(__file__).with_name("believed.txt")
 HEAD = """# The definitions, file by file
 
-`docs/make` makes this page of the first sentence of each file of `crates/*/specs`, crate by crate; each crate stands
-after those on which it depends. [ARCHITECTURE.md](ARCHITECTURE.md#which-definitions-are-to-be-believed) says which of
-these files a reader has to believe. A file of `private/` has words of the code's own steps.
+`docs/make` makes this page of the first sentence of each file of `crates/*/specs`, by the lists of
+[believed.txt](making/believed.txt), crate by crate; each crate stands after those on which it depends.
 """
-# files that list others
-LISTS = ("Lib.antt", "private.antt")
+# the lists of a crate, in their order, and the heading of each
+KINDS = {
+    "believe": "To be believed, in this order",
+    "guards": "Laws in other words, which guard some of these",
+    "others": "Scaffolding, which connects them with the code",
+    "private": "Words of the code's own steps",
+}
 
 
 def sentence(file):
@@ -21,24 +27,47 @@ def sentence(file):
     return re.match(r".*?(?:\.(?= |$)|$)", text)[0].replace("|", "\\|")
 
 
+def listed():
+    """The names in each list of each crate, with what is said of some of them in brackets."""
+    found = {}
+    for line in LISTED.read_text().splitlines():
+        if line and not line.startswith("#"):
+            crate, kind, names = re.fullmatch(r"(\w+) (\w+): (.*)", line).groups()
+            found.setdefault(crate, {}).setdefault(kind, []).extend(re.findall(r"([\w*]+)(?: (\([^)]*\)))?", names))
+    return found
+
+
 def files(crate):
-    """The files of a crate's definitions, those of private/ last."""
-    found = [it for it in (CRATES / crate / "specs").rglob("*.antt") if it.name not in LISTS]
-    return sorted(found, key=lambda it: ("private" in it.parts, it))
+    """The files of a crate's definitions, by the paths that the page has; Lib.antt and private.antt list others."""
+    specs = CRATES / crate / "specs"
+    found = [it for it in specs.rglob("*.antt") if it.name not in ("Lib.antt", "private.antt")]
+    return {str(it.relative_to(specs).with_suffix("")): it for it in sorted(found)}
+
+
+def parted(crate, there, lists):
+    """The paths in each list of a crate, with what is said of some; and the faults."""
+    named = [name for names in lists.values() for name, _ in names]
+    rest = [path for path in there if path not in named and not path.startswith("private/")]
+    found = {kind: [one for name, note in names for one in ([(it, "") for it in rest] if name == "*" else [(name, note)])] for kind, names in lists.items()}
+    found["private"] = [(path, "") for path in there if path.startswith("private/")]
+    wrong = [] if "*" in named else [f"crates/{crate}/specs/{it}.antt is in no list of docs/making/believed.txt" for it in rest]
+    wrong += [f"docs/making/believed.txt: {crate}: {it}: there is no such file" for it in named if it not in there and it != "*"]
+    wrong += [f"docs/making/believed.txt: {crate}: {it} stands twice" for it in sorted(set(named)) if named.count(it) > 1]
+    return found, wrong
 
 
 def page():
     """The page, the number of its rows, and the faults."""
-    parts, count, faults = [HEAD], 0, []
+    parts, count, faults, lists = [HEAD], 0, [], listed()
     for crate in crates():
-        found = files(crate)
-        if found:
-            parts.append(f"\n## {crate}\n\n| File | What it says |\n|---|---|\n")
-        for file in found:
-            said = sentence(file)
-            if not said.endswith("."):
-                faults.append(f"crates/{file.relative_to(CRATES)}: does not begin with a sentence")
-                continue
-            count += 1
-            parts.append(f"| `{file.relative_to(CRATES / crate / 'specs').with_suffix('')}` | {said} |\n")
+        there = files(crate)
+        kinds, wrong = parted(crate, there, lists.get(crate, {}))
+        faults += wrong
+        parts += [f"\n## {crate}\n"] if there else []
+        for kind in KINDS:
+            rows = [(path, note, sentence(there[path])) for path, note in kinds.get(kind, ()) if path in there]
+            faults += [f"crates/{crate}/specs/{path}.antt: does not begin with a sentence" for path, _, said in rows if not said.endswith(".")]
+            parts += [f"\n| {KINDS[kind]} | What it says |\n|---|---|\n"] if rows else []
+            parts += [f"| `{path}`{note and ' '}{note} | {said} |\n" for path, note, said in rows]
+            count += len(rows)
     return "".join(parts), count, faults
