@@ -13,7 +13,9 @@ refusal ([REFUSALS.md](REFUSALS.md)).
 KINDS = r"(?:const |unsafe |extern \"C\" )*(?P<kind>fn|struct|enum|trait|const|static|type)"
 ITEM = re.compile(rf"pub {KINDS} (?P<name>\w+)")
 METHOD = re.compile(r"    (?P<pub>pub )?(?:const )?fn (?P<name>\w+)")
-OWNER = re.compile(r"(?:impl(?:<.*?>)? |pub trait )(?:\w+::)*(?P<name>\w+)(?:<[^{]*>)?(?:: [\w +]+)?(?:\n?\s*where [^{]*)? ?\{")
+OWNER = re.compile(
+    r"(?:impl(?:<.*?>)? |pub trait )(?:\w+::)*(?P<name>\w+)(?:<[^{]*>)?(?:: [\w +]+)?(?:\s*where [^{]*)? ?\{"
+)
 USE = re.compile(r"^pub(?:\(crate\))? use (?:crate::|self::)?([\w:]+?)::(?:\{([^}]*)\}|(\w+));", re.M)
 MODULE = re.compile(r"^pub mod (\w+);", re.M)
 # the lines of an enum that is shown by its head alone
@@ -76,7 +78,7 @@ def head(lines, at):
 
 
 def body(lines, at):
-    """The variants of an enum or the public fields of a struct, with their docstrings; nothing of one that has very many."""
+    """The variants of an enum or the public fields of a struct, with their docstrings; nothing if there are many."""
     if not lines[at].endswith(" {"):
         return []
     inside = lines[at + 1 : lines.index("}", at)]

@@ -44,30 +44,40 @@ def files(crate):
     return {str(it.relative_to(specs).with_suffix("")): it for it in sorted(found)}
 
 
-def parted(crate, there, lists):
-    """The paths in each list of a crate, with what is said of some; and the faults."""
+def parted(there, lists):
+    """The paths in each list of a crate, with what is said of some, and the paths that are in none."""
     named = [name for names in lists.values() for name, _ in names]
     rest = [path for path in there if path not in named and not path.startswith("private/")]
-    found = {kind: [one for name, note in names for one in ([(it, "") for it in rest] if name == "*" else [(name, note)])] for kind, names in lists.items()}
+    every = [(path, "") for path in rest]
+    found = {}
+    for kind, names in lists.items():
+        found[kind] = [one for name, note in names for one in (every if name == "*" else [(name, note)])]
     found["private"] = [(path, "") for path in there if path.startswith("private/")]
-    wrong = [] if "*" in named else [f"crates/{crate}/specs/{it}.antt is in no list of docs/making/believed.txt" for it in rest]
-    wrong += [f"docs/making/believed.txt: {crate}: {it}: there is no such file" for it in named if it not in there and it != "*"]
-    wrong += [f"docs/making/believed.txt: {crate}: {it} stands twice" for it in sorted(set(named)) if named.count(it) > 1]
-    return found, wrong
+    return found, [] if "*" in named else rest
+
+
+def faults_of(crate, there, lists, rest):
+    """What is wrong with the lists of a crate, and with the files."""
+    named = [name for names in lists.values() for name, _ in names if name != "*"]
+    yield from (f"crates/{crate}/specs/{it}.antt: is in no list of docs/making/believed.txt" for it in rest)
+    yield from (f"docs/making/believed.txt: {crate}: {it}: there is no such file" for it in named if it not in there)
+    yield from (f"docs/making/believed.txt: {crate}: {it} stands twice" for it in set(named) if named.count(it) > 1)
+    for path, file in there.items():
+        if not sentence(file).endswith("."):
+            yield f"crates/{crate}/specs/{path}.antt: does not begin with a sentence"
 
 
 def page():
     """The page, the number of its rows, and the faults."""
     parts, count, faults, lists = [HEAD], 0, [], listed()
     for crate in crates():
-        there = files(crate)
-        kinds, wrong = parted(crate, there, lists.get(crate, {}))
-        faults += wrong
+        there, of_crate = files(crate), lists.get(crate, {})
+        kinds, rest = parted(there, of_crate)
+        faults += sorted(faults_of(crate, there, of_crate, rest))
         parts += [f"\n## {crate}\n"] if there else []
         for kind in KINDS:
-            rows = [(path, note, sentence(there[path])) for path, note in kinds.get(kind, ()) if path in there]
-            faults += [f"crates/{crate}/specs/{path}.antt: does not begin with a sentence" for path, _, said in rows if not said.endswith(".")]
+            rows = [(path, note) for path, note in kinds.get(kind, ()) if path in there]
             parts += [f"\n| {KINDS[kind]} | What it says |\n|---|---|\n"] if rows else []
-            parts += [f"| `{path}`{note and ' '}{note} | {said} |\n" for path, note, said in rows]
+            parts += [f"| `{path}`{note and ' '}{note} | {sentence(there[path])} |\n" for path, note in rows]
             count += len(rows)
     return "".join(parts), count, faults
