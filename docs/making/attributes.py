@@ -73,7 +73,7 @@ NUMBERS = {
     "LineNumberTable": ["start", "line"],
     "LocalVariableTable": ["start", "length", "local variable"],
 }
-# what is not numbers alone
+# the attributes that are not numbers alone
 OTHERS = {
     "Code": ("methods", 51, "yes", "max_stack, max_locals, code, exception_table, attributes"),
     "StackMapTable": ("Code", 51, "yes", "its body, which `read_map` reads"),

@@ -16,7 +16,7 @@ METHOD = re.compile(r"    (?P<pub>pub )?(?:const )?fn (?P<name>\w+)")
 OWNER = re.compile(
     r"(?:impl(?:<.*?>)? |pub trait )(?:\w+::)*(?P<name>\w+)(?:<[^{]*>)?(?:: [\w +]+)?(?:\s*where [^{]*)? ?\{"
 )
-USE = re.compile(r"^pub(?:\(crate\))? use (?:crate::|self::)?([\w:]+?)::(?:\{([^}]*)\}|(\w+));", re.M)
+USE = re.compile(r"^pub(\(crate\))? use (?:crate::|self::)?([\w:]+?)::(?:\{([^}]*)\}|(\w+));", re.M)
 MODULE = re.compile(r"^pub mod (\w+);", re.M)
 # the lines of an enum that is shown by its head alone
 MANY = 200
@@ -122,13 +122,12 @@ def items(source, file):
 
 
 def exported(source, file, folder=()):
-    """What a file hands out: the path of the name, and where its item stands."""
+    """The public items of a file and of the modules that it re-exports: path, kind and place of each."""
     for name, kind, at in items(source, file):
         yield name, kind, source.lines[file], at
     text = source.text(file)
-    for path, listed, one in USE.findall(text):
-        wanted = [it.strip() for it in (listed or one).split(",") if it.strip()]
-        for name in wanted:
+    for within, path, listed, one in USE.findall(text):
+        for name in filter(None, (it.strip() for it in (listed or one).split(",") if not within)):
             yield (name, *found_in(source, (*folder, *path.split("::")), name))
     for module in MODULE.findall(text):
         for name, kind, lines, at in exported(source, source.file(*folder, module), (*folder, module)):
@@ -141,7 +140,7 @@ def found_in(source, path, name):
     for found, kind, at in items(source, file):
         if found == name:
             return kind, source.lines[file], at
-    for inner, listed, one in USE.findall(source.text(file)) if file in source.lines else ():
+    for _, inner, listed, one in USE.findall(source.text(file)) if file in source.lines else ():
         if name in [it.strip() for it in (listed or one).split(",")]:
             return found_in(source, (*path, *inner.split("::")), name)
     return None, None, None

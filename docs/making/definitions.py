@@ -57,7 +57,7 @@ def parted(there, lists):
 
 
 def faults_of(crate, there, lists, rest):
-    """What is wrong with the lists of a crate, and with the files."""
+    """The faults of the lists of a crate, and of its files."""
     named = [name for names in lists.values() for name, _ in names if name != "*"]
     yield from (f"crates/{crate}/specs/{it}.antt: is in no list of docs/making/believed.txt" for it in rest)
     yield from (f"docs/making/believed.txt: {crate}: {it}: there is no such file" for it in named if it not in there)
