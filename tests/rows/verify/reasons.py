@@ -63,13 +63,13 @@ def file_of(words):
 
 def faults():
     """The other examples: what each is, the command, the files, and the line."""
-    for number, words, line, _ in table("Of a class file"):
-        yield f"the example of {number}", "check", [edited(words)], line
-    for number, of, digits, told, _ in table("Of code"):
+    for number, words, told, _ in table("Of a class file"):
+        yield f"the example of {number}", "check", [edited(words)], f"refused {number} {told}".rstrip()
+    for number, of, digits, _ in table("Of code"):
         data = bytes.fromhex(digits)
         nested = [attribute(8, data)] if of == "map" else []
         k = replace(with_constants(utf8("StackMapTable")), methods=[method_f(code_f(b"\0\xb1" if nested else data, stack=int(number == "53"), nested=nested))])
-        yield f"the example of {number}", "verify", [k.data(), OBJECT_CLASS], f"method f ()V {told}"
+        yield f"the example of {number}", "verify", [k.data(), OBJECT_CLASS], f"method f ()V refused {78 if nested else 79} at 0 fault {number}"
     for number, classes, line, _ in table("Of a list"):
         yield f"the example of {number}", "verify", [file_of(it) for it in classes.split("; ")], line
 
