@@ -116,6 +116,8 @@ def page():
     lines = [
         f"| {name} ({SECTIONS[name]}) | {', '.join(places)} | {major} | {once} | {what} |\n"
         for name in SECTIONS
-        for (major, once, what), places in told.pop(name, {}).items()
+        for (major, once, what), places in told.get(name, {}).items()
     ]
-    return HEAD + TABLE + "".join(lines) + TAIL, len(lines), [f"no section is known of {name}" for name in told]
+    faults = [f"no section is known of {name}" for name in told if name not in SECTIONS]
+    faults += [f"{name} is in no table of {SOURCE.name}" for name in SECTIONS if name not in told]
+    return HEAD + TABLE + "".join(lines) + TAIL, len(lines), faults

@@ -67,9 +67,19 @@ def faults_of(crate, there, lists, rest):
             yield f"crates/{crate}/specs/{path}.antt: does not begin with a sentence"
 
 
+def strangers(lists):
+    """The faults of lists of no crate, or of no kind."""
+    known = crates()
+    for crate, kinds in lists.items():
+        yield from [] if crate in known else [f"docs/making/believed.txt: {crate}: there is no such crate"]
+        wrong = [kind for kind in kinds if kind not in KINDS or kind == "private"]
+        yield from (f"docs/making/believed.txt: {crate}: {kind}: there is no such list" for kind in wrong)
+
+
 def page():
     """The page, the number of its rows, and the faults."""
-    parts, count, faults, lists = [HEAD], 0, [], listed()
+    parts, count, lists = [HEAD], 0, listed()
+    faults = list(strangers(lists))
     for crate in crates():
         there, of_crate = files(crate), lists.get(crate, {})
         kinds, rest = parted(there, of_crate)
