@@ -34,6 +34,7 @@ class Source:
         return self.folder.joinpath(*names).with_suffix(".rt")
 
     def text(self, file):
+        """The text of a file."""
         return "\n".join(self.lines[file]) + "\n"
 
 
