@@ -1,16 +1,20 @@
 //! Blocks of 16 numbers, compared by lanes.
 ghost use Rattle.std.specs.Prelude.{◌≡◌, ◌≤◌, ◌<◌, ◌+◌, ◌*◌, ◌/◌, ◌%◌, ◌^◌, ◌↔◌, length, IsTrue};
 ghost use Rattle.blocks.specs.Rows.{is_decided};
-ghost use Rattle.blocks.specs.private.Blocks.{place_in, AreDecidedLanes, IsFirstLane, IsFirstUnequalLane};
+ghost use Rattle.blocks.specs.private.Blocks.{place_in, IsFirstLane, IsFirstUnequalLane};
 
-use std::simd::prelude::*;
+use crate::lanes::decided_lanes;
+use std::simd::u32x8;
+
+/// The number of Top, which every type fits.
+const TOP: u32 = 0;
 
 /// Whether numbers alone show that the first fits the second: they are equal, or Top is wanted.
 #[inline(always)]
 pub(crate) fn is_decided(number: u32, wanted: u32) -> bool
     ensures { result ≡ is_decided number wanted }
 {
-    number == wanted || wanted == 0
+    number == wanted || wanted == TOP
 }
 
 /// The place of a slot in the nodes of a level on its way down the tree.
@@ -23,26 +27,24 @@ pub(crate) fn place_in(slot: usize, level: u32) -> usize
     (slot >> (4 * level)) % 16
 }
 
-/// Whether each of 16 numbers is decided.
-#[inline(always)]
-pub(crate) fn are_decided(numbers: &[u32; 16], wanted: &[u32; 16]) -> bool
-    ensures { IsTrue result ↔ AreDecidedLanes numbers.now wanted.now 0 16 }
-{
-    let a = u32x16::from_slice(numbers);
-    let b = u32x16::from_slice(wanted);
-    let undecided = a.simd_ne(b) & b.simd_ne(u32x16::splat(0));
-    undecided.to_bitmask() == 0
-}
-
 /// The first lane from one on that is not decided, or 16.
 pub(crate) fn first_lane(numbers: &[u32; 16], wanted: &[u32; 16], from: usize) -> usize
     requires { from < 16 }
     ensures { IsFirstLane numbers.now wanted.now from result }
 {
-    if are_decided(numbers, wanted) {
-        return 16;
-    }
+    let ours: &[u32] = numbers;
+    let theirs: &[u32] = wanted;
     let mut lane = from;
+    while lane <= 8 {
+        let decided = decided_lanes::<TOP, true>(
+            u32x8::from_slice(&ours[lane..]),
+            u32x8::from_slice(&theirs[lane..]),
+        );
+        lane += decided;
+        if decided < 8 {
+            return lane;
+        }
+    }
     while lane < 16 && is_decided(numbers[lane], wanted[lane]) {
         lane += 1;
     }

@@ -1,0 +1,29 @@
+-- From eight lanes of two blocks to the blocks.
+use Rattle.std.proofs.Common.{◌≡◌, ◌∙◌, ℕ, ◌+◌, ◌<◌, Bool, true, false, eqb, ◌||◌, if◌then◌else◌, List, get_or, refl, sym, inl, inr}
+use Rattle.std.proofs.lemmas.Bool.{cases_lt}
+use lib.Lanes.{chunk}
+use Rattle.blocks.specs.Lanes.{is_decided_by, AreDecidedLanes}
+use Rattle.blocks.specs.Rows.{is_decided}
+use Rattle.blocks.specs.private.Blocks.{AreDecided}
+use Rattle.blocks.proofs.LaneRows.{before_in_rows, stop_in_rows}
+
+decides : (equal top : Bool) → (equal || top) ≡ (if top then true else equal)
+decides true true = refl
+decides true false = refl
+decides false true = refl
+decides false false = refl
+
+-- Top is the mark, and every number fits it
+by_top : (a b : ℕ) → is_decided a b ≡ is_decided_by 0 true a b
+by_top a b = decides (eqb a b) (eqb b 0)
+
+module _ (a b : List ℕ) (i r : ℕ) (h : AreDecidedLanes (is_decided_by 0 true) (chunk i 8 a) (chunk i 8 b) 8 r) where
+  pub decided_on : (from : ℕ) → AreDecided a b from i → AreDecided a b from (i + r)
+  decided_on from before k ahead to =
+      elim (cases_lt k i) [
+        | inl lt ↦ before k ahead lt
+        | inr ge ↦ by_top (get_or a k 0) (get_or b k 0) ∙ before_in_rows (is_decided_by 0 true) a b i r h k ge to
+      ]
+
+  pub stops_on : r < 8 → is_decided (get_or a (i + r) 0) (get_or b (i + r) 0) ≡ false
+  stops_on lt = by_top (get_or a (i + r) 0) (get_or b (i + r) 0) ∙ stop_in_rows (is_decided_by 0 true) a b i r h lt
