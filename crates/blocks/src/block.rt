@@ -27,24 +27,34 @@ pub(crate) fn place_in(slot: usize, level: u32) -> usize
     (slot >> (4 * level)) % 16
 }
 
+/// The first lane that is not decided, or 16.
+#[inline(always)]
+fn first_of_all(numbers: &[u32], wanted: &[u32]) -> usize
+    requires numbers { length numbers.now ≡ 16 }
+    requires wanted { length wanted.now ≡ 16 }
+    ensures { IsFirstLane numbers.now wanted.now 0 result }
+{
+    let low = decided_lanes::<TOP, true>(u32x8::from_slice(numbers), u32x8::from_slice(wanted));
+    if low < 8 {
+        return low;
+    }
+    let high = decided_lanes::<TOP, true>(
+        u32x8::from_slice(&numbers[8..]),
+        u32x8::from_slice(&wanted[8..]),
+    );
+    8 + high
+}
+
 /// The first lane from one on that is not decided, or 16.
 pub(crate) fn first_lane(numbers: &[u32; 16], wanted: &[u32; 16], from: usize) -> usize
     requires { from < 16 }
     ensures { IsFirstLane numbers.now wanted.now from result }
 {
-    let ours: &[u32] = numbers;
-    let theirs: &[u32] = wanted;
-    let mut lane = from;
-    while lane <= 8 {
-        let decided = decided_lanes::<TOP, true>(
-            u32x8::from_slice(&ours[lane..]),
-            u32x8::from_slice(&theirs[lane..]),
-        );
-        lane += decided;
-        if decided < 8 {
-            return lane;
-        }
+    let first = first_of_all(numbers, wanted);
+    if from <= first {
+        return first;
     }
+    let mut lane = from;
     while lane < 16 && is_decided(numbers[lane], wanted[lane]) {
         lane += 1;
     }
