@@ -35,13 +35,16 @@ fn first_of_all(numbers: &[u32], wanted: &[u32]) -> usize
     ensures { IsFirstLane numbers.now wanted.now 0 result }
 {
     let low = decided_lanes::<TOP, true>(u32x8::from_slice(numbers), u32x8::from_slice(wanted));
-    if low < 8 {
+    if low != 8 {
         return low;
     }
     let high = decided_lanes::<TOP, true>(
         u32x8::from_slice(&numbers[8..]),
         u32x8::from_slice(&wanted[8..]),
     );
+    if high == 8 {
+        return 16;
+    }
     8 + high
 }
 

@@ -1,4 +1,4 @@
-use Rattle.std.proofs.Common.{◌≡◌, not, eqb, sym}
+use Rattle.std.proofs.Common.{not, eqb}
 use Rattle.blocks.proofs.EightLanes.{every_fits, none_fits, none_set, some_set}
 use Rattle.blocks.proofs.lanes.decided_lanes.Goals as goal
 use Rattle.blocks.proofs.lanes.decided_lanes.Goals.{then-this-ne0, else-this-ne0}
