@@ -28,28 +28,25 @@ module _ (a b : List ℕ) (i r : ℕ) (h : AreDecidedLanes (is_decided_by 0 true
   stops_on : r < 8 → is_decided (get_or a (i + r) 0) (get_or b (i + r) 0) ≡ false
   stops_on lt = by_top (get_or a (i + r) 0) (get_or b (i + r) 0) ∙ stop_in_rows (is_decided_by 0 true) a b i r h lt
 
-module _ (a b : List ℕ) (low : ℕ) (h : AreDecidedLanes (is_decided_by 0 true) (chunk 0 8 a) (chunk 0 8 b) 8 low) where
-  up_to_low : AreDecided a b 0 low
-  up_to_low =
-      let same : 0 + low ≡ low = omega arith in
-      subst (AreDecided a b 0) same (decided_on a b 0 low h 0 (λ k from to. absurd (omega (arith, from, to))))
+module _ (a b : List ℕ) (from r : ℕ) (low : from ≤ 8) (h : AreDecidedLanes (is_decided_by 0 true) (chunk from 8 a) (chunk from 8 b) 8 r) where
+  up_to : AreDecided a b from (from + r)
+  up_to = decided_on a b from r h from (λ k ahead to. absurd (omega (arith, ahead, to)))
 
-  pub in_the_low_half : low < 8 → IsFirstLane a b 0 low
-  in_the_low_half less =
-      let same : 0 + low ≡ low = omega arith in
+  pub in_the_first_eight : r < 8 → IsFirstLane a b from (from + r)
+  in_the_first_eight less =
       record {
-        few = omega (arith, less);
+        few = omega (arith, low, less);
         ahead = omega arith;
-        decided = up_to_low;
-        stop = λ _. subst (λ n. is_decided (get_or a n 0) (get_or b n 0) ≡ false) same (stops_on a b 0 low h less);
+        decided = up_to;
+        stop = λ _. stops_on a b from r h less;
       }
 
-  pub in_the_high_half : 8 ≤ low → (high : ℕ) → AreDecidedLanes (is_decided_by 0 true) (chunk 8 8 a) (chunk 8 8 b) 8 high → IsFirstLane a b 0 (8 + high)
-  in_the_high_half all high h' =
-      let few = h'.few in
+  pub in_the_last_eight : 8 ≤ r → (last : ℕ) → AreDecidedLanes (is_decided_by 0 true) (chunk 8 8 a) (chunk 8 8 b) 8 last → IsFirstLane a b from (8 + last)
+  in_the_last_eight all last behind =
+      let few = behind.few in
       record {
         few = omega (arith, few);
-        ahead = omega arith;
-        decided = decided_on a b 8 high h' 0 (λ k from to. up_to_low k from (omega (arith, all, to)));
-        stop = λ less. stops_on a b 8 high h' (omega (arith, less));
+        ahead = omega (arith, low);
+        decided = decided_on a b 8 last behind from (λ k ahead to. up_to k ahead (omega (arith, all, to)));
+        stop = λ less. stops_on a b 8 last behind (omega (arith, less));
       }

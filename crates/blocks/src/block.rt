@@ -27,25 +27,27 @@ pub(crate) fn place_in(slot: usize, level: u32) -> usize
     (slot >> (4 * level)) % 16
 }
 
-/// The first lane that is not decided, or 16.
+/// The first lane from one on that is not decided, or 16, eight lanes at a time. The last eight may begin before the
+/// others end.
 #[inline(always)]
-fn first_of_all(numbers: &[u32], wanted: &[u32]) -> usize
+fn first_by_eight(numbers: &[u32], wanted: &[u32], from: usize) -> usize
     requires numbers { length numbers.now ≡ 16 }
     requires wanted { length wanted.now ≡ 16 }
-    ensures { IsFirstLane numbers.now wanted.now 0 result }
+    requires from { from ≤ 8 }
+    ensures { IsFirstLane numbers.now wanted.now from result }
 {
-    let low = decided_lanes::<TOP, true>(u32x8::from_slice(numbers), u32x8::from_slice(wanted));
-    if low != 8 {
-        return low;
+    let decided = decided_lanes::<TOP, true>(
+        u32x8::from_slice(&numbers[from..]),
+        u32x8::from_slice(&wanted[from..]),
+    );
+    if decided != 8 {
+        return from + decided;
     }
-    let high = decided_lanes::<TOP, true>(
+    let last = decided_lanes::<TOP, true>(
         u32x8::from_slice(&numbers[8..]),
         u32x8::from_slice(&wanted[8..]),
     );
-    if high == 8 {
-        return 16;
-    }
-    8 + high
+    8 + last
 }
 
 /// The first lane from one on that is not decided, or 16.
@@ -53,9 +55,8 @@ pub(crate) fn first_lane(numbers: &[u32; 16], wanted: &[u32; 16], from: usize) -
     requires { from < 16 }
     ensures { IsFirstLane numbers.now wanted.now from result }
 {
-    let first = first_of_all(numbers, wanted);
-    if from <= first {
-        return first;
+    if from <= 8 {
+        return first_by_eight(numbers, wanted, from);
     }
     let mut lane = from;
     while lane < 16 && is_decided(numbers[lane], wanted[lane]) {
