@@ -1,10 +1,11 @@
 -- From eight lanes of two blocks to the blocks.
-use Rattle.std.proofs.Common.{◌≡◌, ◌∙◌, ℕ, ◌+◌, ◌<◌, ◌≤◌, Bool, true, false, eqb, ◌||◌, if◌then◌else◌, List, get_or, refl, subst, inl, inr, arith}
-use Rattle.std.proofs.lemmas.Bool.{cases_lt}
+use Rattle.std.proofs.Common.{◌≡◌, ◌∙◌, ℕ, ◌+◌, ◌<◌, ◌≤◌, Bool, true, false, eqb, ◌||◌, if◌then◌else◌, List, get_or, refl, inl, inr, arith}
+use Rattle.std.proofs.lemmas.Bool.{cases_lt, false≢true}
+use borrow.Author.Tests.{eqb-true}
 use lib.Lanes.{chunk}
 use Rattle.blocks.specs.Lanes.{is_decided_by, AreDecidedLanes}
 use Rattle.blocks.specs.Rows.{is_decided}
-use Rattle.blocks.specs.private.Blocks.{AreDecided, IsFirstLane}
+use Rattle.blocks.specs.private.Blocks.{AreDecided, AreEqual, IsFirstLane}
 use Rattle.blocks.proofs.LaneRows.{before_in_rows, stop_in_rows}
 
 decides : (equal top : Bool) → (equal || top) ≡ (if top then true else equal)
@@ -50,3 +51,14 @@ module _ (a b : List ℕ) (from r : ℕ) (low : from ≤ 8) (h : AreDecidedLanes
         decided = decided_on a b 8 last behind from (λ k ahead to. up_to k ahead (omega (arith, all, to)));
         stop = λ less. stops_on a b 8 last behind (omega (arith, less));
       }
+
+equal_where : (t : Bool) (a b : ℕ) → (if t then false else eqb a b) ≡ true → a ≡ b
+equal_where true a b h = absurd (false≢true h)
+equal_where false a b h = eqb-true a b h
+
+equal_by : (mark a b : ℕ) → is_decided_by mark false a b ≡ true → a ≡ b
+equal_by mark a b h = equal_where (eqb b mark) a b h
+
+module _ (mark : ℕ) (a b : List ℕ) (from r : ℕ) (h : AreDecidedLanes (is_decided_by mark false) (chunk from 8 a) (chunk from 8 b) 8 r) where
+  pub equal_on : AreEqual a b from (from + r)
+  equal_on k ahead to = equal_by mark (get_or a k 0) (get_or b k 0) (before_in_rows (is_decided_by mark false) a b from r h k ahead to)

@@ -1,13 +1,16 @@
 //! Blocks of 16 numbers, compared by lanes.
 ghost use Rattle.std.specs.Prelude.{◌≡◌, ◌≤◌, ◌<◌, ◌+◌, ◌*◌, ◌/◌, ◌%◌, ◌^◌, ◌↔◌, length, IsTrue};
 ghost use Rattle.blocks.specs.Rows.{is_decided};
-ghost use Rattle.blocks.specs.private.Blocks.{place_in, IsFirstLane, IsFirstUnequalLane};
+ghost use Rattle.blocks.specs.private.Blocks.{place_in, AreEqual, IsFirstLane, IsFirstUnequalLane};
 
 use crate::lanes::decided_lanes;
 use std::simd::u32x8;
 
 /// The number of Top, which every type fits.
 const TOP: u32 = 0;
+
+/// The greatest number. Where it is in both blocks a lane is compared by itself.
+const GREATEST: u32 = 0xFFFF_FFFF;
 
 /// Whether numbers alone show that the first fits the second: they are equal, or Top is wanted.
 #[inline(always)]
@@ -65,12 +68,30 @@ pub(crate) fn first_lane(numbers: &[u32; 16], wanted: &[u32; 16], from: usize) -
     lane
 }
 
+/// How many of the eight lanes from one on hold equal numbers, up to the first that do not or hold the greatest number.
+#[inline(always)]
+fn equal_lanes(numbers: &[u32], others: &[u32], from: usize) -> usize
+    requires numbers { length numbers.now ≡ 16 }
+    requires others { length others.now ≡ 16 }
+    requires from { from ≤ 8 }
+    ensures few { result ≤ 8 }
+    ensures equal { AreEqual numbers.now others.now from (from + result) }
+{
+    decided_lanes::<GREATEST, false>(
+        u32x8::from_slice(&numbers[from..]),
+        u32x8::from_slice(&others[from..]),
+    )
+}
+
 /// The first lane from one on in which the numbers differ, or 16.
 pub(crate) fn first_unequal_lane(numbers: &[u32; 16], others: &[u32; 16], from: usize) -> usize
     requires { from < 16 }
     ensures { IsFirstUnequalLane numbers.now others.now from result }
 {
     let mut lane = from;
+    if from <= 8 {
+        lane += equal_lanes(numbers, others, from);
+    }
     while lane < 16 && numbers[lane] == others[lane] {
         lane += 1;
     }

@@ -17,9 +17,13 @@ pub record IsFirstLane (a b : List ℕ) (from lane : ℕ) : Type 0 where
   pub decided : AreDecided a b from lane
   pub stop : lane < 16 → is_decided (slice_index a lane) (slice_index b lane) ≡ false
 
+-- the numbers of two blocks are equal from one lane up to another
+abbrev pub AreEqual : List ℕ → List ℕ → ℕ → ℕ → Type 0
+AreEqual a b from to = (k : ℕ) → from ≤ k → k < to → slice_index a k ≡ slice_index b k
+
 -- the first lane from one on in which the numbers of two blocks differ, or 16
 pub record IsFirstUnequalLane (a b : List ℕ) (from lane : ℕ) : Type 0 where
   pub few : lane ≤ 16
   pub ahead : from ≤ lane
-  pub equal : (k : ℕ) → from ≤ k → k < lane → slice_index a k ≡ slice_index b k
+  pub equal : AreEqual a b from lane
   pub stop : lane < 16 → slice_index a lane ≢ slice_index b lane
