@@ -1,4 +1,6 @@
-pub mod SixteenLanes
+pub mod EightLanes
+pub mod LaneRows
+pub mod Blocks
 pub mod Places
 pub mod Trees
 pub mod Comparing

@@ -27,6 +27,7 @@
 //! - `block`: blocks of 16 numbers, compared by lanes
 //! - `comparison`: two trees compared slot by slot, as far as numbers and earlier fits decide
 //! - `fitting`: nodes that are said to fit others
+//! - `lanes`: eight numbers compared at a time; the kernel of `frames` too
 //! - `laws`: what the pairs that were said to fit mean; its functions do nothing
 //! - `node`: a node of a tree
 //! - `tree`: what a slot holds, and how a number is put where no other row sees it
@@ -36,6 +37,7 @@ mod arena;
 mod block;
 mod comparison;
 mod fitting;
+pub mod lanes;
 pub mod laws;
 mod node;
 mod replacing;

@@ -1,5 +1,4 @@
 pub mod Arrays
-pub mod EightLanes
 pub mod SlotRows
 pub mod SlotTypes
 pub mod PlaceAnswers

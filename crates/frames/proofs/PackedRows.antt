@@ -1,14 +1,16 @@
 -- The places of two packed frames: what their slots decide.
 use Rattle.std.proofs.Common.{◌≡◌, ◌∙◌, ℕ, ◌+◌, ◌<◌, ◌≤◌, Some, drop, length, slice_get, get_or, List, refl, sym, subst, inl, arith, false}
 use lib.Lanes.{chunk}
+use Rattle.blocks.specs.Lanes.{is_decided_by, AreDecidedLanes}
 use Rattle.hierarchy.specs.Class.{ClassFact}
 use Rattle.hierarchy.specs.Answer.{Outcome, yes, no}
 use Rattle.frames.specs.declared.packed_frame.Packed.{Packed}
 use Rattle.frames.specs.FrameFact.{frame_of}
 use Rattle.frames.specs.FrameAssignable.{both, frame_answer}
 use Rattle.frames.specs.Meaning.{IsAlike}
+use Rattle.frames.specs.Packing.{absent_slot}
 use Rattle.frames.specs.PackedFrames.{IsPacked, place_answers, joined}
-use Rattle.frames.specs.Undecided.{is_undecided, AreDecidedLanes}
+use Rattle.frames.specs.Undecided.{is_undecided}
 use Rattle.frames.proofs.Frames.{alike_answer, one_frame_answer}
 use Rattle.frames.proofs.SlotRows.{decided_on}
 use Rattle.frames.proofs.PlaceAnswers.{os_length, row_length, decided_yes, walk_on, walk_over, walk_no, walk_end}
@@ -40,7 +42,7 @@ module _ (h : List ClassFact) (p q : Packed) (first : IsPacked h p) (second : Is
 
   module _ (r : Outcome) (at : ℕ) (so_far : joined os ≡ both r (joined (drop at os))) where
     -- past slots that lanes decide
-    pub past : (n : ℕ) → at + 8 ≤ length a → AreDecidedLanes (chunk at 8 a) (chunk at 8 b) 8 n → joined os ≡ both r (joined (drop (at + n) os))
+    pub past : (n : ℕ) → at + 8 ≤ length a → AreDecidedLanes (is_decided_by absent_slot false) (chunk at 8 a) (chunk at 8 b) 8 n → joined os ≡ both r (joined (drop (at + n) os))
     past n room lanes =
         let few = lanes.few in
         walk_over os r at so_far n (λ j from to. at_decided j (omega (arith, few, to, room)) (decided_on a b at n lanes at (λ k from_k to_k. absurd (omega (arith, from_k, to_k))) j from to))

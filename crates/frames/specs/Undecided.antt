@@ -10,12 +10,6 @@ is_undecided a b = not (nat_eq a b) || nat_eq b absent_slot
 abbrev pub AreDecided : List ℕ → List ℕ → ℕ → ℕ → Type 0
 AreDecided a b from to = (k : ℕ) → from ≤ k → k < to → is_undecided (slice_index a k) (slice_index b k) ≡ false
 
--- so many of the first n are decided, up to the first that is not
-pub record AreDecidedLanes (a b : List ℕ) (n count : ℕ) : Type 0 where
-  pub few : count ≤ n
-  pub decided : AreDecided a b 0 count
-  pub stop : count < n → is_undecided (slice_index a count) (slice_index b count) ≡ true
-
 -- the first place from one on that is not decided
 abbrev pub IsFirstUndecided : List ℕ → List ℕ → ℕ → Option ℕ → Type 0
 IsFirstUndecided a b from None = AreDecided a b from (length a)

@@ -12,10 +12,12 @@ use crate::frame::Frame;
 use crate::frame_assignability::{both, slot_assignable};
 use crate::frame_fault::FrameFault;
 use crate::packing::pack;
-use crate::slot_comparison::{decided_lanes, is_undecided};
+use crate::slot_comparison::{ABSENT, is_undecided};
 use crate::vtype::VType;
+use blocks::lanes::decided_lanes;
 use hierarchy::{Answer, Classes};
 use std::alloc::{AllocError, Global};
+use std::simd::u32x8;
 
 /// A frame, and a slot of four bytes for each local from 0 up and then each item of the stack from the bottom up.
 #[derive(Debug, Drop)]
@@ -131,9 +133,9 @@ pub fn packed_assignable<'n, C: Classes>(
     let mut so_far = Answer::Yes;
     let mut at = 0;
     while ours.len() - at >= 8 {
-        let decided = decided_lanes(
-            std::simd::u32x8::from_slice(&ours[at..]),
-            std::simd::u32x8::from_slice(&theirs[at..]),
+        let decided = decided_lanes::<ABSENT, false>(
+            u32x8::from_slice(&ours[at..]),
+            u32x8::from_slice(&theirs[at..]),
         );
         at += decided;
         if decided < 8 {

@@ -2,9 +2,10 @@
 
 ghost use Rattle.std.specs.Prelude.{◌≡◌, length};
 ghost use Rattle.frames.specs.Packing.{absent_slot};
-ghost use Rattle.frames.specs.Undecided.{is_undecided, AreDecidedLanes, IsFirstUndecided};
+ghost use Rattle.frames.specs.Undecided.{is_undecided, IsFirstUndecided};
 
-use std::simd::prelude::*;
+use blocks::lanes::decided_lanes;
+use std::simd::u32x8;
 
 /// The slot of each class that the hierarchy has not, and of each array of one.
 pub const ABSENT: u32 = 0xFFFF_FFFF;
@@ -17,22 +18,6 @@ pub(crate) fn is_undecided(a: u32, b: u32) -> bool
     a != b || b == ABSENT
 }
 
-/// How many of eight slots are equal to eight others and stand for no absent class, up to the first that does not.
-#[inline(always)]
-pub(crate) fn decided_lanes(a: u32x8, b: u32x8) -> usize
-    requires a { length a ≡ 8 }
-    requires b { length b ≡ 8 }
-    ensures { AreDecidedLanes a b 8 result }
-{
-    let undecided = a.simd_ne(b) | b.simd_eq(u32x8::splat(ABSENT));
-    let mask = undecided.to_bitmask();
-    if mask == 0 {
-        8
-    } else {
-        mask.trailing_zeros() as usize
-    }
-}
-
 /// The first place from one on at which the slots of two rows differ or stand for absent classes. Takes no memory.
 pub fn first_undecided(a: &[u32], b: &[u32], from: usize) -> Option<usize>
     requires { length a.now ≡ length b.now }
@@ -40,7 +25,10 @@ pub fn first_undecided(a: &[u32], b: &[u32], from: usize) -> Option<usize>
 {
     let mut at = from;
     while at < a.len() && a.len() - at >= 8 {
-        let decided = decided_lanes(u32x8::from_slice(&a[at..]), u32x8::from_slice(&b[at..]));
+        let decided = decided_lanes::<ABSENT, false>(
+            u32x8::from_slice(&a[at..]),
+            u32x8::from_slice(&b[at..]),
+        );
         at += decided;
         if decided < 8 {
             return Some(at);

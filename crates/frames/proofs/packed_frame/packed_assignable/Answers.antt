@@ -1,10 +1,12 @@
 use Rattle.std.proofs.Common.{◌≡◌, ◌∙◌, ◌+◌, length, drop, get_or, false, sym, ap, arith}
 use Rattle.std.proofs.lemmas.Bool.{false≢true}
 use lib.Lanes.{chunk}
+use Rattle.blocks.specs.Lanes.{is_decided_by, AreDecidedLanes}
 use Rattle.hierarchy.specs.Answer.{outcome_of}
 use Rattle.frames.specs.FrameAssignable.{both}
+use Rattle.frames.specs.Packing.{absent_slot}
 use Rattle.frames.specs.PackedFrames.{place_answers, joined}
-use Rattle.frames.specs.Undecided.{is_undecided, AreDecidedLanes}
+use Rattle.frames.specs.Undecided.{is_undecided}
 use Rattle.frames.proofs.PackedRows.{not_alike, past, past_one, past_answer, at_no, at_end}
 use Rattle.frames.proofs.packed_frame.packed_assignable.Goals as goal
 use Rattle.frames.proofs.packed_frame.packed_assignable.Goals.{then-is_undecided+in_default-answer, else-is_undecided}
@@ -22,7 +24,7 @@ returns-in-No g c =
     let n = c.decided_lanes-decided.result in
     let count : length c.deref-ours.result.now ≡ length c.args.from.now.slots.items = ap length c.deref-ours.ensures.value in
     let room = c.loop-at-test.true in
-    let lanes : AreDecidedLanes (chunk at 8 p.slots.items) (chunk at 8 q.slots.items) 8 n = rw (← c.deref-ours.ensures.value, ← c.deref-theirs.ensures.value) c.decided_lanes-decided.ensures in
+    let lanes : AreDecidedLanes (is_decided_by absent_slot false) (chunk at 8 p.slots.items) (chunk at 8 q.slots.items) 8 n = rw (← c.deref-ours.ensures.value, ← c.deref-theirs.ensures.value) c.decided_lanes-decided.ensures in
     let r = outcome_of c.loop-at.so_far in
     let on = past h p q c.requires.from c.requires.to alike r at c.loop-at.invariant.rest n (omega (arith, count, room)) lanes in
     at_no h p q c.requires.from c.requires.to alike r (at + n) on c.in-No.ensures
@@ -38,7 +40,7 @@ loop-at-preserved-then-decided-lt8 g c =
     let count : length c.deref-ours.result.now ≡ length c.args.from.now.slots.items = ap length c.deref-ours.ensures.value in
     let room = c.loop-at-test.true in
     let less = c.if-decided-lt8.true in
-    let lanes : AreDecidedLanes (chunk at 8 p.slots.items) (chunk at 8 q.slots.items) 8 n = rw (← c.deref-ours.ensures.value, ← c.deref-theirs.ensures.value) c.decided_lanes-decided.ensures in
+    let lanes : AreDecidedLanes (is_decided_by absent_slot false) (chunk at 8 p.slots.items) (chunk at 8 q.slots.items) 8 n = rw (← c.deref-ours.ensures.value, ← c.deref-theirs.ensures.value) c.decided_lanes-decided.ensures in
     let r = outcome_of c.loop-at.so_far in
     let on = past h p q c.requires.from c.requires.to alike r at c.loop-at.invariant.rest n (omega (arith, count, room)) lanes in
     record {
@@ -56,7 +58,7 @@ loop-at-preserved g c =
     let n = c.decided_lanes-decided.result in
     let count : length c.deref-ours.result.now ≡ length c.args.from.now.slots.items = ap length c.deref-ours.ensures.value in
     let room = c.loop-at-test.true in
-    let lanes : AreDecidedLanes (chunk at 8 p.slots.items) (chunk at 8 q.slots.items) 8 n = rw (← c.deref-ours.ensures.value, ← c.deref-theirs.ensures.value) c.decided_lanes-decided.ensures in
+    let lanes : AreDecidedLanes (is_decided_by absent_slot false) (chunk at 8 p.slots.items) (chunk at 8 q.slots.items) 8 n = rw (← c.deref-ours.ensures.value, ← c.deref-theirs.ensures.value) c.decided_lanes-decided.ensures in
     let few = lanes.few in
     record {
       within = omega (arith, count, room, few);
