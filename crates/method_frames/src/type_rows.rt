@@ -105,7 +105,7 @@ fn replace_object(
 }
 
 impl<'t, 'c, 'n, C: Classes> TypeRows<'t, 'c, 'n, C> {
-    ghost use Rattle.std.specs.Prelude.{◌≡◌, ◌≢◌, ◌<◌, ◌^◌, ◌∷◌, ◌++◌, ◌⊎◌, ◌≤◌, ℕ, true, false, [], length, map, take, drop, replicate, slice_index, slice_set, IfOk, OnOk, OnErr};
+    ghost use Rattle.std.specs.Prelude.{◌≡◌, ◌≢◌, ◌<◌, ◌^◌, ◌∷◌, ◌++◌, ◌⊎◌, ◌≤◌, ℕ, true, false, [], length, map, take, drop, replicate, slice_index, slice_set, IfOk, OnOk, OnErr, IsTrue, ◌↔◌};
     ghost use Rattle.frames.specs.VerificationType.{VerificationType, type_of};
     ghost use Rattle.frames.specs.Objects.{replaced as type_replaced};
     ghost use Rattle.method_frames.specs.ObjectLaws.{IsObjectType};
@@ -116,7 +116,7 @@ impl<'t, 'c, 'n, C: Classes> TypeRows<'t, 'c, 'n, C> {
     ghost use Rattle.type_numbers.specs.Numbers.{IsGiven, IsNumber};
     ghost use Rattle.type_numbers.specs.Decoding.{type_by, types_by};
     ghost use Rattle.method_frames.specs.NumberedRows.{declared_in};
-    ghost use Rattle.blocks.specs.Rows.{IsFirstUnequal};
+    ghost use Rattle.blocks.specs.Rows.{AreEqualBetween, IsFirstUnequal};
     ghost use Rattle.frames.specs.FrameAssignable.{both};
     ghost use Rattle.frames.specs.PackedFrames.{joined};
     ghost use Rattle.method_frames.specs.private.TypeRows.{row_answers, IsUnfit};
@@ -295,6 +295,15 @@ impl<'t, 'c, 'n, C: Classes> TypeRows<'t, 'c, 'n, C> {
         ensures { IsFirstUnequal (declared_in self.now row) (declared_in self.now other) 0 result }
     {
         self.rows.first_unequal(row, other)
+    }
+
+    /// Whether two declared rows have the same types at the places from one up to another.
+    pub fn are_equal(&self, row: Row, other: Row, from: usize, to: usize) -> bool
+        requires row { row < length self.now.declared }
+        requires other { other < length self.now.declared }
+        ensures { IsTrue result ↔ AreEqualBetween (declared_in self.now row) (declared_in self.now other) from to }
+    {
+        self.rows.are_equal(row, other, from, to)
     }
 
     /// The answer for the types at one place of the running row and of a declared one.
