@@ -1,10 +1,10 @@
 //! Which numbers declared frames want of a local variable. They are found once for all frames that have the same local
 //! variables, and a type is compared with each of them once.
-ghost use Rattle.std.specs.Prelude.{◌≡◌, ◌^◌, ◌/◌, ◌<◌, ℕ, List, length, slice_get, Contains, Some, IsTrue, IfOk, OnOk};
+ghost use Rattle.std.specs.Prelude.{◌≡◌, ◌^◌, ◌/◌, ◌<◌, ℕ, List, length, slice_get, Some, IsTrue, IfOk, OnOk};
 ghost use Rattle.method_frames.specs.NumberedFrames.{NumberedFrame};
 ghost use Rattle.type_numbers.specs.Numbers.{Numbering, IsGiven};
 ghost use Rattle.verify.specs.private.pass.Representatives.{TakesLocal};
-ghost use Rattle.verify.specs.private.pass.Watching.{AreDeclared, GoesOn, HasAlike, IsGroup, FitUpTo, AreFitting, IsWanted, IsWatch};
+ghost use Rattle.verify.specs.private.pass.Watching.{AreDeclared, GoesOn, Has, HasAlike, IsGroup, FitUpTo, AreFitting, IsWanted, IsWatch};
 
 use hierarchy::{Answer, Classes};
 use method_frames::MethodFrames;
@@ -44,7 +44,7 @@ impl Wanted {
         ensures fitting { (s : Numbering) → IsGiven s number → AreFitting s self.old
             → OnOk result (AreFitting s self.new) }
         ensures more { OnOk result (GoesOn self.old.numbers.items self.new.numbers.items) }
-        ensures wanted { OnOk result (Contains self.new.numbers.items number) }
+        ensures wanted { OnOk result (Has self.new.numbers.items number) }
     {
         if !self.numbers.contains(&number) {
             self.numbers.push(number)?;

@@ -1,5 +1,5 @@
 -- Which numbers declared frames want of a local variable, found once for all frames that have the same ones.
-use Rattle.std.specs.Prelude.{◌≡◌, ℕ, ◌+◌, ◌*◌, ◌≤◌, ◌<◌, List, length, slice_get, Contains, Some}
+use Rattle.std.specs.Prelude.{◌≡◌, ℕ, ◌+◌, ◌*◌, ◌≤◌, ◌<◌, List, length, slice_get, Some}
 use Rattle.std.specs.BTreeMap.{get}
 use Rattle.std.specs.Ordering.{nat_cmp}
 use Rattle.hierarchy.specs.Answer.{yes}
@@ -22,6 +22,10 @@ AreDeclared ds fs = (k f : ℕ) → slice_get fs k ≡ Some f → f < length ds
 abbrev pub GoesOn : List ℕ → List ℕ → Type 0
 GoesOn old new = (k n : ℕ) → slice_get old k ≡ Some n → slice_get new k ≡ Some n
 
+-- a list has a number
+abbrev pub Has : List ℕ → ℕ → Type 0
+Has ns n = (k : ℕ) × (slice_get ns k ≡ Some n)
+
 -- ---- what is wanted of one local variable
 
 -- a type may stand for the first so many of these
@@ -39,7 +43,7 @@ pub record AreFitting (s : Numbering) (w : Wanted) : Type 0 where
 pub record IsWanted (s : Numbering) (ds : List (ℕ × NumberedFrame)) (list : List ℕ) (place : ℕ) (w : Wanted) : Type 0 where
   pub fitting : AreFitting s w
   pub few : w.seen ≤ length list
-  pub each : (k f : ℕ) → k < w.seen → slice_get list k ≡ Some f → Contains w.numbers.items (local_in ds f place)
+  pub each : (k f : ℕ) → k < w.seen → slice_get list k ≡ Some f → Has w.numbers.items (local_in ds f place)
 
 -- ---- groups of local variables
 
