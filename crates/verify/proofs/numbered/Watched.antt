@@ -3,9 +3,10 @@ use Rattle.std.proofs.Common.{◌≡◌, ◌⊎◌, ◌∙◌, ℕ, zero, suc, �
 use Rattle.std.specs.Prelude.{◌||◌, IsTrue}
 use Rattle.std.specs.List.{list_any}
 use Rattle.std.specs.BTreeMap.{BTreeMap, get, is_at, Updates, IsEmpty}
+use Rattle.std.specs.Map.{lookup}
 use Rattle.std.specs.Cmp.{Equal-is}
 use Rattle.std.specs.Ordering.{nat_cmp}
-use Rattle.std.proofs.lemmas.Bool.{cases_lt}
+use Rattle.std.proofs.lemmas.Bool.{cases_lt, eqb-true}
 use Rattle.std.proofs.lemmas.Map.Lookups.{exact_unsigned}
 use Rattle.std.proofs.lemmas.Option.{slice_get_within}
 use Rattle.hierarchy.specs.Answer.{yes}
@@ -54,8 +55,8 @@ module _ {X : Type 0} where
   pub empty_all : (P : ℕ → X → Type 0) (m : BTreeMap ℕ X) → IsEmpty m → (q : ℕ) (y : X) → get nat_cmp m q ≡ Some y → P q y
   empty_all P m none q y e = absurd (by m.entries none e)
     where
-      by : (es : List (ℕ × X)) → es ≡ [] → Rattle.std.specs.List.lookup (is_at (nat_cmp q)) es ≡ Some y → ⊥
-      by es none e = let f : Rattle.std.specs.List.lookup (is_at (nat_cmp q)) [] ≡ Some y = sym (ap (Rattle.std.specs.List.lookup (is_at (nat_cmp q))) none) ∙ e in cc
+      by : (es : List (ℕ × X)) → es ≡ [] → lookup (is_at (nat_cmp q)) es ≡ Some y → ⊥
+      by es none e = let f : lookup (is_at (nat_cmp q)) [] ≡ Some y = sym (ap (lookup (is_at (nat_cmp q))) none) ∙ e in cc
 
 -- ---- lists
 
@@ -89,13 +90,10 @@ either : (a b : Bool) → (a || b) ≡ true → (a ≡ true) ⊎ (b ≡ true)
 either true b e = inl refl
 either false b e = inr e
 
-eq_true : (a b : ℕ) → nat_eq a b ≡ true → a ≡ b
-eq_true a b e = omega (arith, e)
-
 pub has_found : (ns : List ℕ) (n : ℕ) → list_any (λ m. nat_eq m n) ns ≡ true → Has ns n
 has_found [] n e = absurd (cc)
 has_found (m ∷ ns) n e = elim (either (nat_eq m n) (list_any (λ m. nat_eq m n) ns) e) [
-  | inl here ↦ (0, ap (λ k. Some k) (eq_true m n here))
+  | inl here ↦ (0, ap (λ k. Some k) (eqb-true m n here))
   | inr there ↦ (let h = has_found ns n there in (suc h.0, h.1))
 ]
 
@@ -180,6 +178,16 @@ module _ (s : Numbering) where
                 let same_frame : frame ≡ f = some_same frame f (sym here ∙ ap (slice_get list) (sym same) ∙ e) in
                 subst (λ z. Has new.numbers.items (local_in ds z place)) same_frame has)
           ];
+        }
+
+    -- a number was compared with more of what is wanted
+    pub wanted_kept : (list : List ℕ) (place : ℕ) (old new : Wanted) → IsWanted s ds list place old → AreFitting s new → new.seen ≡ old.seen → new.numbers ≡ old.numbers → IsWanted s ds list place new
+    wanted_kept list place old new is fitting seen same =
+        let few = is.few in
+        record {
+          fitting = fitting;
+          few = omega (arith, few, seen);
+          each = λ k f lt e. subst (λ z. Has z.items (local_in ds f place)) (sym same) (is.each k f (omega (arith, lt, seen)) e);
         }
 
     -- ---- groups
