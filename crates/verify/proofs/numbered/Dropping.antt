@@ -10,6 +10,7 @@ use Rattle.verify.specs.declared.pass.representatives.Bucket.{Bucket}
 use Rattle.verify.specs.declared.pass.representatives.Representatives.{Representatives}
 use Rattle.verify.specs.private.pass.Buckets.{IsBucket, AreBuckets, IsIn, IsNamed, AreRepresentatives, IsPut, IsSorted}
 use Rattle.verify.proofs.numbered.Listed.{some_same, set_kept}
+use Rattle.verify.proofs.numbered.Representing.{buckets_exchanged}
 
 -- those of the list from a place on are still to be put
 pub record Sorting (s : Numbering) (ds : List (ℕ × NumberedFrame)) (at : ℕ) (old : Representatives) (i : ℕ) (now : Representatives) : Type 0 where
@@ -38,7 +39,7 @@ module _ (s : Numbering) (ds : List (ℕ × NumberedFrame)) (at : ℕ) (old : Re
       }
     where
       by : (i : ℕ) (z : Bucket) → slice_get (set old.buckets.items place c) i ≡ Some z → IsBucket s ds (length old.until.items) z
-      by i z e = Rattle.verify.proofs.numbered.Representing.buckets_exchanged old.buckets.items place b c here s ds (length old.until.items) empty are.buckets i z e
+      by i z e = buckets_exchanged old.buckets.items place b c here s ds (length old.until.items) empty are.buckets i z e
 
       kept : (f : ℕ) → IsNamed old.buckets.items f → IsNamed now.buckets.items f ⊎ ((k : ℕ) × (0 ≤ k) × (slice_get now.moved.items k ≡ Some f))
       kept f n = elim (set_kept old.buckets.items place c n.1.bucket n.0 n.1.there) [
@@ -88,7 +89,7 @@ module _ (s : Numbering) (ds : List (ℕ × NumberedFrame)) (at : ℕ) (old : Re
         inside = let lt = d.within i frame here in let long = d.long in omega (arith, lt, long)
 
         by : (f : ℕ) → 0 < slice_index now.until.items f → (f ≡ frame) ⊎ (f ≢ frame) → IsNamed now.buckets.items f ⊎ ((k : ℕ) × (i + 1 ≤ k) × (slice_get now.moved.items k ≡ Some f))
-        by f lt (inl e) = absurd (let none = ap (λ xs. get_or xs f 0) until ∙ ap (get_or (set was.until.items frame 0)) e ∙ get_or-set_same was.until.items frame 0 0 inside in omega (arith, lt, none))
+        by f lt (inl e) = absurd (let none = ap (λ xs. get_or xs f 0) until ∙ ap (λ k. get_or (set was.until.items frame 0) k 0) e ∙ get_or-set_same was.until.items frame 0 0 inside in omega (arith, lt, none))
         by f lt (inr ne) = elim (d.named f (subst (λ k. 0 < k) (ap (λ xs. get_or xs f 0) until ∙ get_or-set_other was.until.items frame f 0 0 ne) lt)) [
           | inl n ↦ inl (subst (λ z. IsNamed z.items f) (sym buckets) n)
           | inr later ↦ elim (cases_eq later.0 i) [

@@ -1,5 +1,6 @@
 -- Places of a list in which an item was added or replaced.
-use Rattle.std.proofs.Common.{◌≡◌, ◌⊎◌, ℕ, zero, suc, ◌<◌, List, [], ◌∷◌, ◌++◌, length, get_or, set, slice_get, Some, refl, ap, inl, inr, arith}
+use Rattle.std.proofs.Common.{◌≡◌, ◌⊎◌, ℕ, zero, suc, ◌<◌, ◌≤◌, ◌∙◌, List, [], ◌∷◌, ◌++◌, length, get_or, set, slice_get, Some, refl, ap, inl, inr, arith}
+use Rattle.std.proofs.lemmas.List.{length-append}
 
 pub some_same : {A : Type 0} (a b : A) → Some a ≡ Some b → a ≡ b
 some_same a b e = cc
@@ -55,3 +56,6 @@ set_kept (x ∷ xs) (suc i) y z (suc k) e = elim (set_kept xs i y z k e) [
   | inl h ↦ inl (ap suc h)
   | inr h ↦ inr h
 ]
+
+pub longer : {A : Type 0} (xs ys : List A) (y : A) (n : ℕ) → ys ≡ xs ++ y ∷ [] → n ≤ length xs → n ≤ length ys
+longer xs ys y n is le = let more = ap length is ∙ length-append xs (y ∷ []) in omega (arith, le, more)

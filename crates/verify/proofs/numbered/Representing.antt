@@ -10,7 +10,7 @@ use Rattle.verify.specs.declared.pass.representatives.Bucket.{Bucket}
 use Rattle.verify.specs.declared.pass.representatives.Representatives.{Representatives}
 use Rattle.verify.specs.private.pass.Representatives.{TakesLocal, TakesChanges}
 use Rattle.verify.specs.private.pass.Watching.{IsWatch}
-use Rattle.verify.specs.private.pass.Buckets.{IsBucket, AreBuckets, IsIn, IsNamed, AreRepresentatives}
+use Rattle.verify.specs.private.pass.Buckets.{IsBucket, AreBuckets, IsIn, IsNamed, AreRepresentatives, IsPut}
 use Rattle.verify.proofs.numbered.Listed.{some_same, pushed_cases, pushed_before, pushed_last, set_cases, set_here, set_kept}
 use Rattle.verify.proofs.numbered.Watched.{goes_on_pushed, watch_on, declared_pushed}
 
@@ -66,12 +66,12 @@ module _ (P : ℕ → Type 0) where
   AllInTo bs n = (i f : ℕ) → i < n → IsIn bs i f → P f
 
   pub all_in_more : (bs : List Bucket) (n : ℕ) (b : Bucket) → slice_get bs n ≡ Some b → ((k f : ℕ) → slice_get b.list.items k ≡ Some f → P f) → AllInTo bs n → AllInTo bs (n + 1)
-  all_in_more bs n b here each so i f less in = elim (cases_lt i n) [
-    | inl lt ↦ so i f lt in
+  all_in_more bs n b here each so i f less at = elim (cases_lt i n) [
+    | inl lt ↦ so i f lt at
     | inr ge ↦
         (let same : i ≡ n = omega (arith, less, ge) in
-        let is : b ≡ in.bucket = some_same b in.bucket (sym here ∙ ap (slice_get bs) (sym same) ∙ in.there) in
-        each in.place f (subst (λ (z : Bucket). slice_get z.list.items in.place ≡ Some f) (sym is) in.here))
+        let is : b ≡ at.bucket = some_same b at.bucket (sym here ∙ ap (slice_get bs) (sym same) ∙ at.there) in
+        each at.place f (subst (λ (z : Bucket). slice_get z.list.items at.place ≡ Some f) (sym is) at.here))
   ]
 
   pub all_named : (bs : List Bucket) (n : ℕ) → AllInTo bs n → length bs ≤ n → (f : ℕ) → IsNamed bs f → P f
@@ -85,25 +85,25 @@ module _ (bs : List Bucket) (i : ℕ) (b c : Bucket) (here : slice_get bs i ≡ 
 
   -- the frames of the one are among those of the other
   pub in_exchanged : ((f k : ℕ) → slice_get b.list.items k ≡ Some f → (n : ℕ) × (slice_get c.list.items n ≡ Some f)) → (k f : ℕ) → IsIn bs k f → IsIn exchanged k f
-  in_exchanged all k f in = elim (set_kept bs i c in.bucket k in.there) [
+  in_exchanged all k f at = elim (set_kept bs i c at.bucket k at.there) [
     | inl same ↦
-        (let is : in.bucket ≡ b = some_same in.bucket b (sym in.there ∙ ap (slice_get bs) same ∙ here) in
-        let there = all f in.place (subst (λ (z : Bucket). slice_get z.list.items in.place ≡ Some f) is in.here) in
+        (let is : at.bucket ≡ b = some_same at.bucket b (sym at.there ∙ ap (slice_get bs) same ∙ here) in
+        let there = all f at.place (subst (λ (z : Bucket). slice_get z.list.items at.place ≡ Some f) is at.here) in
         record {
           bucket = c;
           there = ap (slice_get exchanged) same ∙ set_here bs i c (slice_get_within bs i b here);
           place = there.0;
           here = there.1;
         })
-    | inr there ↦ record { bucket = in.bucket; there = there; place = in.place; here = in.here }
+    | inr there ↦ record { bucket = at.bucket; there = there; place = at.place; here = at.here }
   ]
 
   pub back_exchanged : ((f k : ℕ) → slice_get c.list.items k ≡ Some f → (n : ℕ) × (slice_get b.list.items n ≡ Some f)) → (k f : ℕ) → IsIn exchanged k f → IsIn bs k f
-  back_exchanged all k f in = elim (set_cases bs i c in.bucket k in.there) [
+  back_exchanged all k f at = elim (set_cases bs i c at.bucket k at.there) [
     | inl same ↦
-        (let there = all f in.place (subst (λ (z : Bucket). slice_get z.list.items in.place ≡ Some f) (sym same.1) in.here) in
+        (let there = all f at.place (subst (λ (z : Bucket). slice_get z.list.items at.place ≡ Some f) (sym same.1) at.here) in
         record { bucket = b; there = ap (slice_get bs) same.0 ∙ here; place = there.0; here = there.1 })
-    | inr there ↦ record { bucket = in.bucket; there = there; place = in.place; here = in.here }
+    | inr there ↦ record { bucket = at.bucket; there = there; place = at.place; here = at.here }
   ]
 
   pub buckets_exchanged : (s : Numbering) (ds : List (ℕ × NumberedFrame)) (room : ℕ) → IsBucket s ds room c → AreBuckets s ds room bs → AreBuckets s ds room exchanged
@@ -115,7 +115,7 @@ module _ (bs : List Bucket) (i : ℕ) (b c : Bucket) (here : slice_get bs i ≡ 
 -- ---- one more bucket
 
 pub in_more : (bs : List Bucket) (b : Bucket) (k f : ℕ) → IsIn bs k f → IsIn (bs ++ b ∷ []) k f
-in_more bs b k f in = record { bucket = in.bucket; there = pushed_before bs b in.bucket k in.there; place = in.place; here = in.here }
+in_more bs b k f at = record { bucket = at.bucket; there = pushed_before bs b at.bucket k at.there; place = at.place; here = at.here }
 
 pub buckets_more : (s : Numbering) (ds : List (ℕ × NumberedFrame)) (room : ℕ) (bs : List Bucket) (b : Bucket) → IsBucket s ds room b → AreBuckets s ds room bs → AreBuckets s ds room (bs ++ b ∷ [])
 buckets_more s ds room bs b is are k z e = elim (pushed_cases bs b z k e) [
@@ -149,6 +149,14 @@ pub roomier : (s : Numbering) (ds : List (ℕ × NumberedFrame)) (room more : �
 roomier s ds room more bs le are i b e =
     let is = are i b e in
     record { declared = is.declared; within = λ k f here. let lt = is.within k f here in omega (arith, lt, le); watch = is.watch }
+
+-- one was put
+pub with_put : (s : Numbering) (ds : List (ℕ × NumberedFrame)) (old new : Representatives) (frame : ℕ) → AreRepresentatives s ds old → IsPut old frame new
+    → frame < length ds → frame < length old.until.items → AreRepresentatives s ds new
+with_put s ds old new frame are put lt room = record {
+  buckets = subst (λ u. AreBuckets s ds (length u.items) new.buckets.items) (sym put.until) (put.buckets s ds (length old.until.items) lt room are.buckets);
+  named = λ f at. put.kept f (are.named f (subst (λ u. 0 < slice_index u.items f) put.until at));
+}
 
 -- one stands for others up to an offset
 pub with_until : (s : Numbering) (ds : List (ℕ × NumberedFrame)) (old new : Representatives) (frame n : ℕ) → AreRepresentatives s ds old → IsNamed old.buckets.items frame

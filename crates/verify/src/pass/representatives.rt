@@ -1,5 +1,5 @@
 //! Declared frames that stand for others, since they have the same locals (JVMS 4.10.1.6).
-ghost use Rattle.std.specs.Prelude.{◌≡◌, ◌≤◌, ◌<◌, ◌++◌, ◌∷◌, ◌^◌, ℕ, [], List, length, slice_get, slice_index, Some, IsTrue, IfOk, OnOk, IsSomeAnd};
+ghost use Rattle.std.specs.Prelude.{◌≡◌, ◌≤◌, ◌<◌, ◌++◌, ◌∷◌, ◌^◌, ℕ, [], List, length, slice_get, slice_index, Some, IsTrue, IfOk, IfSome, OnOk};
 ghost use Rattle.method_frames.specs.NumberedFrames.{NumberedFrame};
 ghost use Rattle.type_numbers.specs.Numbers.{Numbering, IsGiven};
 ghost use Rattle.verify.specs.private.pass.Representatives.{TakesLocal, TakesChanges};
@@ -119,6 +119,17 @@ impl Bucket {
         true
     }
 
+    /// Takes all frames out, and puts them after those of a list.
+    fn empty(&mut self, list: &mut Vec<usize>) -> Result<(), AllocError>
+        ensures bucket { (s : Numbering) (ds : List (ℕ × NumberedFrame)) (room : ℕ)
+            → OnOk result (IsBucket s ds room self.new) }
+        ensures list { OnOk result (list.new.items ≡ list.old.items ++ self.old.list.items) }
+    {
+        list.append(&mut self.list)?;
+        self.watch.clear();
+        Ok(())
+    }
+
     /// Whether a frame may stop at an offset, in bytes, or before it.
     fn may_stop(&self, at: u16) -> bool {
         at >= self.lasts
@@ -174,11 +185,11 @@ impl Representatives {
     /// Makes the buckets up to this place.
     fn grow(&mut self, place: usize) -> Result<(), AllocError>
         ensures buckets { (s : Numbering) (ds : List (ℕ × NumberedFrame)) (room : ℕ)
-            → AreBuckets s ds room self.old.buckets.items → AreBuckets s ds room self.new.buckets.items }
-        ensures kept { (i f : ℕ) → IsIn self.old.buckets.items i f → IsIn self.new.buckets.items i f }
+            → AreBuckets s ds room self.old.buckets.items → OnOk result (AreBuckets s ds room self.new.buckets.items) }
+        ensures kept { OnOk result ((i f : ℕ) → IsIn self.old.buckets.items i f → IsIn self.new.buckets.items i f) }
         ensures until { self.new.until ≡ self.old.until }
         ensures moved { self.new.moved ≡ self.old.moved }
-        ensures more { length self.old.buckets.items ≤ length self.new.buckets.items }
+        ensures more { OnOk result (length self.old.buckets.items ≤ length self.new.buckets.items) }
         ensures room { OnOk result (place < length self.new.buckets.items) }
     {
         while self.buckets.len() <= place {
@@ -194,7 +205,8 @@ impl Representatives {
         let time = until.saturating_sub(at);
         let place = self.bucket_for(time);
         self.grow(place)?;
-        self.buckets[place].put(frame, at.saturating_add(time / 2))
+        self.buckets[place].put(frame, at.saturating_add(time / 2))?;
+        Ok(())
     }
 
     /// A frame stands for those with its locals from an offset up to another, in bytes.
@@ -320,13 +332,13 @@ impl Representatives {
     /// bytes, or less far.
     fn sort(&mut self, place: usize, at: u16) -> Result<(), AllocError>
         requires place { place < length self.old.buckets.items }
+        requires representatives { (s : Numbering) × (ds : List (ℕ × NumberedFrame)) × AreRepresentatives s ds self.old }
         ensures sorted { (s : Numbering) (ds : List (ℕ × NumberedFrame)) → AreRepresentatives s ds self.old
             → OnOk result (IsSorted s ds at self.old self.new) }
         ensures more { OnOk result (length self.old.buckets.items ≤ length self.new.buckets.items) }
     {
         self.moved.clear();
-        self.moved.append(&mut self.buckets[place].list)?;
-        self.buckets[place].watch.clear();
+        self.buckets[place].empty(&mut self.moved)?;
         for i in 0..self.moved.len() {
             let frame = self.moved[i];
             let until = self.until[frame];
