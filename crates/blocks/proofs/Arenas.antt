@@ -1,15 +1,15 @@
 -- The rows of a method by the slots of its trees.
 use Rattle.std.proofs.Common.{◌≡◌, ◌∙◌, ℕ, zero, suc, ◌+◌, ◌-◌, ◌*◌, ◌%◌, ◌<◌, ◌≤◌, ◌^◌, ◌⊎◌, inl, inr, true, ◌||◌, eq-eqb, List, [], ◌∷◌, ◌++◌, map, length, get_or, set, replicate, Option, Some, None, refl, sym, ap, subst, arith, add-one, length-append, length-set, get_or-set_same, get_or-set_other}
-use Rattle.std.specs.Prelude.{nat_eq}
+use Rattle.std.specs.Prelude.{nat_eq, IsTrue, is_none}
 use Rattle.std.specs.List.{range_with_len, Contains}
-use Rattle.std.proofs.lemmas.List.{length-map, append-nil, ext_get_or, get_or_append_left, get_or_at, get_or-replicate, length-replicate}
+use Rattle.std.proofs.lemmas.List.{length-map, append-nil, ext_get_or, get_or_append_left, get_or_at, get_or_past, get_or-replicate, length-replicate}
 use Rattle.std.proofs.lemmas.List.Elements.{Contains-append_left, Contains-append_right, Contains-append_cases}
 use Rattle.std.proofs.lemmas.Nat.{pow_pos, mod_below}
 use Rattle.std.proofs.Math.Nat.{mod-eq_of_lt}
 use Rattle.std.proofs.lemmas.Bool.{cases_eq, cases_lt, or_right}
 use Rattle.std.proofs.lemmas.List.FromFn.{length-map-range_with_len, get_or-map-range_with_len}
 use Rattle.blocks.specs.declared.node.Node.{Node}
-use Rattle.blocks.specs.Rows.{Rows, declared_row, is_decided, IsSettled, IsFirstUndecided, IsFirstUnequal, StandsAt, IsSaidToFit}
+use Rattle.blocks.specs.Rows.{Rows, declared_row, AreEqualBetween, is_decided, IsSettled, IsFirstUndecided, IsFirstUnequal, StandsAt, IsSaidToFit}
 use Rattle.blocks.specs.private.Trees.{node_at, level_of, below, number_at, width, IsTree, IsPut, IsKnown, IsSettledBelow, IsFirstUndecidedBelow, IsEqualBelow, IsFirstUnequalBelow, Keeps, SharesSame, NotesOnly}
 use Rattle.blocks.specs.private.Arenas.{row_of, pairs_of, known_pairs, rows_of, IsArena, AreEmpty}
 use Rattle.blocks.proofs.Places.{number_modulo}
@@ -403,6 +403,46 @@ module _ (ns : List Node) (own root kept count : ℕ) (declared : List ℕ) (row
       first_unequal ns (level_of ns root) id beside count (declared_row rows row) (declared_row rows other) (row_long row lt)
       (slot_of row id lt at) (slot_of other beside inside there) 0 result
       (subst (λ l. IsFirstUnequalBelow ns l id beside 0 count result) (id_level ns own root kept count declared rows a is row id lt at) h)
+
+  -- two rows hold equal numbers in a range exactly where no slot of the range before their ends is one that differs
+  pub equal_rows : (row id other beside : ℕ) → row < length rows.declared → id ≡ get_or declared row 0 → other < length rows.declared → beside ≡ get_or declared other 0
+      → (from to end : ℕ) → end ≤ to → end ≤ count → (to ≤ end) ⊎ (count ≤ end) → (result : Option ℕ) → IsFirstUnequalBelow ns (level_of ns id) id beside from end result
+      → (IsTrue (is_none result) → AreEqualBetween (declared_row rows row) (declared_row rows other) from to)
+      × (AreEqualBetween (declared_row rows row) (declared_row rows other) from to → IsTrue (is_none result))
+  equal_rows row id other beside lt at inside there from to end low few last result found =
+      by result (subst (λ l. IsFirstUnequalBelow ns l id beside from end result) (id_level ns own root kept count declared rows a is row id lt at) found)
+    where
+      one : (k : ℕ) → k < count → get_or (declared_row rows row) k 0 ≡ number_at ns (level_of ns root) id k
+      one = slot_of row id lt at
+
+      two : (k : ℕ) → k < count → get_or (declared_row rows other) k 0 ≡ number_at ns (level_of ns root) beside k
+      two = slot_of other beside inside there
+
+      past : (k : ℕ) → count ≤ k → get_or (declared_row rows row) k 0 ≡ get_or (declared_row rows other) k 0
+      past k le =
+          let a = row_long row lt in
+          let b = row_long other inside in
+          get_or_past (declared_row rows row) k 0 (omega (arith, a, le)) ∙ sym (get_or_past (declared_row rows other) k 0 (omega (arith, b, le)))
+
+      by : (result : Option ℕ) → IsFirstUnequalBelow ns (level_of ns root) id beside from end result
+          → (IsTrue (is_none result) → AreEqualBetween (declared_row rows row) (declared_row rows other) from to)
+          × (AreEqualBetween (declared_row rows row) (declared_row rows other) from to → IsTrue (is_none result))
+      by None h = (
+        λ t k ahead less. elim (cases_lt k end) [
+          | inl lt ↦ (let low : k < count = omega (arith, lt, few) in one k low ∙ h k ahead lt ∙ sym (two k low))
+          | inr ge ↦ elim last [
+            | inl to_end ↦ absurd (omega (arith, less, ge, to_end))
+            | inr count_end ↦ past k (omega (arith, ge, count_end))
+          ]
+        ],
+        λ same. refl,
+      )
+      by (Some slot) h =
+          let less : slot < end = h.1 in
+          let inner : slot < count = omega (arith, less, few) in (
+            λ t. absurd (cc),
+            λ same. absurd (h.2 (sym (one slot inner) ∙ same slot h.0 (omega (arith, less, low)) ∙ two slot inner)),
+          )
 
 -- ---- what is said to fit
 

@@ -42,6 +42,10 @@ IsFirstUnequal a b from None = (k : ℕ) → from ≤ k → k < length a → sli
 IsFirstUnequal a b from (Some slot) = (from ≤ slot) × (slot < length a) × (slice_index a slot ≢ slice_index b slot)
     × ((k : ℕ) → from ≤ k → k < slot → slice_index a k ≡ slice_index b k)
 
+-- two rows hold equal numbers from one place up to another
+abbrev pub AreEqualBetween : List ℕ → List ℕ → ℕ → ℕ → Type 0
+AreEqualBetween a b from to = (k : ℕ) → from ≤ k → k < to → slice_index a k ≡ slice_index b k
+
 -- the two numbers of a slot
 pub record StandsAt (row wanted : List ℕ) (a b : ℕ) : Type 0 where
   pub slot : ℕ

@@ -1,6 +1,6 @@
 //! The rows of a method.
-ghost use Rattle.std.specs.Prelude.{◌≡◌, ◌<◌, ◌≤◌, ◌^◌, ◌++◌, ◌∷◌, [], length, map, replicate, slice_index, slice_index_or, slice_set, IfOk, OnOk, OnErr};
-ghost use Rattle.blocks.specs.Rows.{declared_row, IsFirstUndecided, IsFirstUnequal, IsSaidToFit, replaced};
+ghost use Rattle.std.specs.Prelude.{◌≡◌, ◌<◌, ◌≤◌, ◌^◌, ◌++◌, ◌∷◌, [], length, map, replicate, slice_index, slice_index_or, slice_set, IfOk, OnOk, OnErr, IsTrue, ◌↔◌};
+ghost use Rattle.blocks.specs.Rows.{declared_row, AreEqualBetween, IsFirstUndecided, IsFirstUnequal, IsSaidToFit, replaced};
 ghost use Rattle.blocks.specs.private.Trees.{width};
 ghost use Rattle.blocks.specs.private.Arenas.{empty_node, AreEmpty};
 
@@ -279,6 +279,19 @@ impl Arena {
         let root = root_of(&self.declared, row);
         let beside = root_of(&self.declared, other);
         first_unequal_below(&self.nodes, root, beside, 0, self.count)
+    }
+
+    /// Whether two declared rows hold the same numbers in the slots from one up to another; rows have the same ones beyond
+    /// their ends.
+    pub fn are_equal(&self, row: Row, other: Row, from: usize, to: usize) -> bool
+        requires row { row < length self.now.declared }
+        requires other { other < length self.now.declared }
+        ensures { IsTrue result ↔ AreEqualBetween (declared_row self.now row) (declared_row self.now other) from to }
+    {
+        let root = root_of(&self.declared, row);
+        let beside = root_of(&self.declared, other);
+        let end = to.min(self.count);
+        first_unequal_below(&self.nodes, root, beside, from, end).is_none()
     }
 
     /// Notes that the running row fits a declared one, so that the two are not compared again until the running row

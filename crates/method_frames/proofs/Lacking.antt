@@ -16,7 +16,7 @@ use Rattle.frames.proofs.PlaceAnswers.{walk_on, walk_over}
 use Rattle.type_numbers.specs.Numbers.{Numbering}
 use Rattle.type_numbers.specs.Decoding.{type_by, types_by}
 use Rattle.blocks.specs.Rows.{Rows, declared_row}
-use Rattle.method_frames.specs.private.TypeRows.{row_answers, answer_for, IsUnfit, Lacks, IsLacking}
+use Rattle.method_frames.specs.private.TypeRows.{row_answers, answer_for, FitsUpTo, IsUnfit, Lacks, IsLacking}
 use Rattle.method_frames.specs.declared.type_rows.Lacking.{Lacking}
 use Rattle.method_frames.specs.NumberedRows.{NumberedRows, declared_in}
 use Rattle.method_frames.specs.private.KnownRows.{AreKnown}
@@ -30,6 +30,13 @@ pub yes_alone : (answer : Answer) → (answer ≡ Yes → ⊥) → outcome_of an
 yes_alone Yes h e = h refl
 yes_alone No h e = cc
 yes_alone (Missing name) h e = cc
+
+pub both_left : (a b : Outcome) → both a b ≡ yes → a ≡ yes
+both_left yes b e = refl
+both_left no b e = e
+both_left (missing name) yes e = e
+both_left (missing name) no e = cc
+both_left (missing name) (missing _) e = e
 
 -- ---- two rows for which a class is missing
 
@@ -53,15 +60,16 @@ module _ (s : Numbering) (xs ys : List ℕ) (even : length ys ≡ length xs) (na
   lacks end u = record {
     within = u.within;
     place = all.1.0;
-    early = by (cases_lt u.place all.1.0);
+    last = by (cases_lt u.place all.1.0) (cases_lt all.1.0 u.place);
     here = first_here;
     before = λ k lt. let inside = first_inside in read k yes (omega (arith, lt, inside)) (all.1.2 k lt);
     free = λ k lt e. all.0 k (at s xs ys even k lt ∙ ap Some e);
   }
     where
-      by : (u.place < all.1.0) ⊎ (all.1.0 ≤ u.place) → all.1.0 < end
-      by (inl lt) = let inside = first_inside in absurd (u.here (read u.place yes (omega (arith, lt, inside)) (all.1.2 u.place lt)))
-      by (inr le) = let early = u.early in omega (arith, le, early)
+      by : (u.place < all.1.0) ⊎ (all.1.0 ≤ u.place) → (all.1.0 < u.place) ⊎ (u.place ≤ all.1.0) → all.1.0 + 1 ≡ end
+      by (inl lt) _ = let inside = first_inside in absurd (u.here (read u.place yes (omega (arith, lt, inside)) (all.1.2 u.place lt)))
+      by (inr le) (inl lt) = absurd (missing_not_yes name (sym first_here ∙ u.before all.1.0 lt))
+      by (inr le) (inr ge) = let last = u.last in omega (arith, le, ge, last)
 
 -- ---- rows that have first places in common
 
@@ -92,14 +100,15 @@ module _ (s : Numbering) (xs ys zs : List ℕ) (even : length zs ≡ length xs) 
   there k lt = at s xs zs even k (omega (arith, lt, within)) ∙ ap Some (alike k lt)
 
   first_low : l.place < count
-  first_low = let early = l.early in omega (arith, early, le)
+  first_low = let last = l.last in omega (arith, last, le)
 
   pub unfit_too : IsUnfit s xs zs end
   unfit_too = record {
     within = l.within;
     place = l.place;
-    early = l.early;
+    last = l.last;
     here = λ e. missing_not_yes name (sym l.here ∙ sym (alike l.place first_low) ∙ e);
+    before = λ k lt. let low = first_low in alike k (omega (arith, lt, low)) ∙ l.before k lt;
   }
 
   to_first : joined others ≡ both yes (joined (drop l.place others))
@@ -120,8 +129,22 @@ module _ (s : Numbering) (xs ys zs : List ℕ) (even : length zs ≡ length xs) 
       stays others name (l.place + 1) n past_first (λ j lt. (answer_for s xs ys j, there j (omega (arith, lt, whole)), l.free j (omega (arith, lt, whole, within))))
       ∙ ap (λ j. both (missing name) (joined (drop j others))) whole
 
+-- rows that have fewer first places in common
+module _ (s : Numbering) (xs ys zs : List ℕ) (even : length zs ≡ length xs) (end count : ℕ) (name : List ℕ) (l : Lacks s xs ys end name)
+    (lt : count < end) (within : count ≤ length xs) (same : (k : ℕ) → k < count → get_or ys k 0 ≡ get_or zs k 0) where
+  pub fits_too : FitsUpTo s xs zs count
+  fits_too k less =
+      let last = l.last in
+      ap (λ m. type_answer s.classes (type_by s (get_or xs k 0)) (type_by s m)) (sym (same k less)) ∙ l.before k (omega (arith, less, lt, last))
+
+  pub fitting_too : joined (row_answers s xs zs) ≡ both yes (joined (drop count (row_answers s xs zs)))
+  fitting_too =
+      let start : 0 + count ≡ count = omega arith in
+      walk_over (row_answers s xs zs) yes 0 refl count (λ j from low. at s xs zs even j (omega (arith, low, start, within)) ∙ ap Some (fits_too j (omega (arith, low, start))))
+      ∙ ap (λ j. both yes (joined (drop j (row_answers s xs zs)))) start
+
 module _ (s : Numbering) (rows : Rows) (x : NumberedRows) (is : view_of s rows ≡ x) (known : AreKnown s rows) (noted : Option Lacking) (holds : IfSome noted (IsLacking s rows))
-    (l : Lacking) (some : noted ≡ Some l) (row : ℕ) (r : row < length x.declared) (count : ℕ) (within : count ≤ length x.running) (le : l.end ≤ count)
+    (l : Lacking) (some : noted ≡ Some l) (row : ℕ) (r : row < length x.declared) (count : ℕ) (within : count ≤ length x.running)
     (same : (k : ℕ) → k < count → get_or (declared_in x l.row) k 0 ≡ get_or (declared_in x row) k 0) where
   noted_lacks : Lacks s rows.running (declared_row rows l.row) l.end l.name.now
   noted_lacks = let h = subst (λ o. IfSome o (IsLacking s rows)) some holds in h.lacks
@@ -135,13 +158,23 @@ module _ (s : Numbering) (rows : Rows) (x : NumberedRows) (is : view_of s rows �
   common : (k : ℕ) → k < count → get_or (declared_row rows l.row) k 0 ≡ get_or (declared_row rows row) k 0
   common = subst (λ y. (k : ℕ) → k < count → get_or (declared_in y l.row) k 0 ≡ get_or (declared_in y row) k 0) (sym is) same
 
-  pub start_lacks : joined (row_answers x.types x.running (declared_in x row)) ≡ both (missing l.name.now) (joined (drop count (row_answers x.types x.running (declared_in x row))))
-  start_lacks =
+  pub start_fits : count < l.end → FitsUpTo x.types x.running (declared_in x row) count
+  start_fits lt =
+      subst (λ y. FitsUpTo y.types y.running (declared_in y row) count) is
+      (fits_too s rows.running (declared_row rows l.row) (declared_row rows row) even l.end count l.name.now noted_lacks lt inside common)
+
+  pub start_fitting : count < l.end → joined (row_answers x.types x.running (declared_in x row)) ≡ both yes (joined (drop count (row_answers x.types x.running (declared_in x row))))
+  start_fitting lt =
+      subst (λ y. joined (row_answers y.types y.running (declared_in y row)) ≡ both yes (joined (drop count (row_answers y.types y.running (declared_in y row))))) is
+      (fitting_too s rows.running (declared_row rows l.row) (declared_row rows row) even l.end count l.name.now noted_lacks lt inside common)
+
+  pub start_lacks : l.end ≤ count → joined (row_answers x.types x.running (declared_in x row)) ≡ both (missing l.name.now) (joined (drop count (row_answers x.types x.running (declared_in x row))))
+  start_lacks le =
       subst (λ y. joined (row_answers y.types y.running (declared_in y row)) ≡ both (missing l.name.now) (joined (drop count (row_answers y.types y.running (declared_in y row))))) is
       (lacking_too s rows.running (declared_row rows l.row) (declared_row rows row) even l.end count l.name.now noted_lacks le inside common)
 
-  pub end_unfit : IsUnfit x.types x.running (declared_in x row) l.end
-  end_unfit =
+  pub end_unfit : l.end ≤ count → IsUnfit x.types x.running (declared_in x row) l.end
+  end_unfit le =
       subst (λ y. IsUnfit y.types y.running (declared_in y row) l.end) is
       (unfit_too s rows.running (declared_row rows l.row) (declared_row rows row) even l.end count l.name.now noted_lacks le inside common)
 

@@ -1,5 +1,7 @@
 -- A walk along the places of the running row that are not known to fit a declared one.
-use Rattle.std.proofs.Common.{◌≡◌, ◌≢◌, ◌∙◌, ℕ, ◌+◌, ◌-◌, ◌<◌, ◌≤◌, List, [], Some, None, length, drop, slice_get, get_or, sym, ap, subst, arith}
+use Rattle.std.proofs.Common.{◌≡◌, ◌≢◌, ◌∙◌, ℕ, ◌+◌, ◌-◌, ◌<◌, ◌≤◌, List, [], Some, None, length, drop, slice_get, get_or, refl, sym, ap, subst, inl, inr, arith}
+use Rattle.std.proofs.lemmas.Bool.{cases_lt}
+use Rattle.hierarchy.proofs.Names.{same_some}
 use Rattle.hierarchy.specs.Answer.{Outcome, yes, no}
 use Rattle.frames.specs.Assignable.{type_answer}
 use Rattle.frames.specs.FrameAssignable.{both, list_answer}
@@ -11,7 +13,7 @@ use Rattle.type_numbers.specs.Numbers.{Numbering}
 use Rattle.type_numbers.specs.Decoding.{type_by, types_by}
 use Rattle.method_frames.specs.NumberedRows.{NumberedRows, declared_in}
 use Rattle.method_frames.specs.private.KnownRows.{AreGiven, AreKnown, fits}
-use Rattle.method_frames.specs.private.TypeRows.{row_answers, IsUnfit}
+use Rattle.method_frames.specs.private.TypeRows.{row_answers, answer_for, FitsUpTo, IsUnfit}
 use Rattle.method_frames.proofs.Answering.{judgement, whole, long, at, fitting, all_fit}
 use Rattle.method_frames.proofs.Knowing.{view_of}
 
@@ -62,8 +64,24 @@ module _ (s : Numbering) (rows : Rows) (x : NumberedRows) (is : view_of s rows �
       pub next_within : place + 1 ≤ length x.running
       next_within = let lt = inside in omega (arith, lt)
 
-      pub here_unfit : a ≢ yes → IsUnfit x.types x.running (declared_in x row) (place + 1)
-      here_unfit h = record { within = next_within; place = place; early = omega arith; here = λ k. h (e ∙ k) }
+      -- the places in front of it fit
+      in_front : FitsUpTo x.types x.running (declared_in x row) from → FitsUpTo x.types x.running (declared_in x row) place
+      in_front fit k less = elim (cases_lt k from) [
+        | inl low ↦ fit k low
+        | inr ge ↦
+            (let lt = h.1 in
+            let here = inside in
+            same_some (at x.types x.running (declared_in x row) even k (omega (arith, less, here))) (settled_yes k (omega (arith, less, lt)) (h.3 k ge less)))
+      ]
+
+      pub here_unfit : FitsUpTo x.types x.running (declared_in x row) from → a ≢ yes → IsUnfit x.types x.running (declared_in x row) (place + 1)
+      here_unfit fit n = record { within = next_within; place = place; last = refl; here = λ k. n (e ∙ k); before = in_front fit }
+
+      pub here_fits : FitsUpTo x.types x.running (declared_in x row) from → a ≡ yes → FitsUpTo x.types x.running (declared_in x row) (place + 1)
+      here_fits fit y k less = elim (cases_lt k place) [
+        | inl low ↦ in_front fit k low
+        | inr ge ↦ (let same : k ≡ place = omega (arith, less, ge) in subst (λ j. answer_for x.types x.running (declared_in x row) j ≡ yes) (sym same) (sym e ∙ y))
+      ]
 
     pub at_end : from ≤ length x.running → IsFirstUndecided rows row from None → so_far ≡ whole_answer
     at_end few h =

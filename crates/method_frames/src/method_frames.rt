@@ -101,7 +101,7 @@ impl<'t, 'c, 'n, C: Classes> MethodFrames<'t, 'c, 'n, C> {
     ghost use Rattle.type_numbers.specs.Decoding.{type_by, types_by};
     ghost use Rattle.method_frames.specs.Objects.{is_uninitialized, made_object, holds, replaced, initialized, IsClassNumber};
     ghost use Rattle.method_frames.specs.NumberedFrames.{frame_by, declared_frame};
-    ghost use Rattle.blocks.specs.Rows.{IsFirstUnequal};
+    ghost use Rattle.blocks.specs.Rows.{AreEqualBetween, IsFirstUnequal};
 
     /// The running frame has so many locals, all of them top, and nothing on its stack. No frame is declared yet, and
     /// none will have more than so many items on its stack.
@@ -495,6 +495,28 @@ impl<'t, 'c, 'n, C: Classes> MethodFrames<'t, 'c, 'n, C> {
         self.locals.first_unequal(row, beside)
     }
 
+    /// Whether two declared frames have the same types in the local variables from one up to another.
+    pub fn share_locals(&self, frame: usize, other: usize, from: usize, to: usize) -> bool
+        requires frame { frame < length self.now.declared }
+        requires other { other < length self.now.declared }
+        ensures { IsTrue result ↔ AreEqualBetween (declared_frame self.now frame).locals
+            (declared_frame self.now other).locals from to }
+    {
+        let row = self.declared[frame].locals;
+        let beside = self.declared[other].locals;
+        self.locals.are_equal(row, beside, from, to)
+    }
+
+    /// The number of a local variable of a declared frame; 0, which is that of top, where there is no such local.
+    pub fn declared_local(&self, frame: usize, place: usize) -> u32
+        requires { frame < length self.now.declared }
+        ensures number { result ≡ slice_index (declared_frame self.now frame).locals place }
+        ensures given { IsGiven self.now.types result }
+    {
+        let declared = self.declared[frame];
+        self.locals.declared(declared.locals, place)
+    }
+
     /// The answer for a type where that of a local variable of a declared frame is wanted.
     fn local_answer(&self, frame: usize, place: usize, number: u32) -> Answer<'n>
         requires frame { frame < length self.now.declared }
@@ -502,8 +524,7 @@ impl<'t, 'c, 'n, C: Classes> MethodFrames<'t, 'c, 'n, C> {
         ensures { let s = self.now.types in outcome_of result ≡ type_answer s.classes (type_by s number)
             (type_by s (slice_index (declared_frame self.now frame).locals place)) }
     {
-        let declared = self.declared[frame];
-        let wanted = self.locals.declared(declared.locals, place);
+        let wanted = self.declared_local(frame, place);
         self.types().assignable(number, wanted)
     }
 

@@ -105,21 +105,21 @@ fn replace_object(
 }
 
 impl<'t, 'c, 'n, C: Classes> TypeRows<'t, 'c, 'n, C> {
-    ghost use Rattle.std.specs.Prelude.{◌≡◌, ◌≢◌, ◌<◌, ◌^◌, ◌∷◌, ◌++◌, ◌⊎◌, ◌≤◌, ℕ, true, false, [], length, map, take, drop, replicate, slice_index, slice_set, IfOk, OnOk, OnErr};
+    ghost use Rattle.std.specs.Prelude.{◌≡◌, ◌≢◌, ◌<◌, ◌^◌, ◌∷◌, ◌++◌, ◌⊎◌, ◌≤◌, ℕ, true, false, [], length, map, take, drop, replicate, slice_index, slice_set, IfOk, OnOk, OnErr, IsTrue, ◌↔◌, List};
     ghost use Rattle.frames.specs.VerificationType.{VerificationType, type_of};
     ghost use Rattle.frames.specs.Objects.{replaced as type_replaced};
     ghost use Rattle.method_frames.specs.ObjectLaws.{IsObjectType};
     ghost use Rattle.method_frames.specs.Objects.{is_uninitialized, replaced};
-    ghost use Rattle.hierarchy.specs.Answer.{outcome_of, yes};
+    ghost use Rattle.hierarchy.specs.Answer.{outcome_of, yes, missing};
     ghost use Rattle.frames.specs.Assignable.{type_answer};
     ghost use Rattle.frames.specs.FrameAssignable.{list_answer};
     ghost use Rattle.type_numbers.specs.Numbers.{IsGiven, IsNumber};
     ghost use Rattle.type_numbers.specs.Decoding.{type_by, types_by};
     ghost use Rattle.method_frames.specs.NumberedRows.{declared_in};
-    ghost use Rattle.blocks.specs.Rows.{IsFirstUnequal};
+    ghost use Rattle.blocks.specs.Rows.{AreEqualBetween, IsFirstUnequal};
     ghost use Rattle.frames.specs.FrameAssignable.{both};
     ghost use Rattle.frames.specs.PackedFrames.{joined};
-    ghost use Rattle.method_frames.specs.private.TypeRows.{row_answers, IsUnfit};
+    ghost use Rattle.method_frames.specs.private.TypeRows.{row_answers, FitsUpTo, IsUnfit};
 
     /// Rows with so many places; the running one holds Top throughout.
     pub fn new(
@@ -297,6 +297,15 @@ impl<'t, 'c, 'n, C: Classes> TypeRows<'t, 'c, 'n, C> {
         self.rows.first_unequal(row, other)
     }
 
+    /// Whether two declared rows have the same types at the places from one up to another.
+    pub fn are_equal(&self, row: Row, other: Row, from: usize, to: usize) -> bool
+        requires row { row < length self.now.declared }
+        requires other { other < length self.now.declared }
+        ensures { IsTrue result ↔ AreEqualBetween (declared_in self.now row) (declared_in self.now other) from to }
+    {
+        self.rows.are_equal(row, other, from, to)
+    }
+
     /// The answer for the types at one place of the running row and of a declared one.
     fn answer_at(&self, row: Row, place: usize) -> Answer<'n>
         requires row { row < length self.now.declared }
@@ -326,8 +335,8 @@ impl<'t, 'c, 'n, C: Classes> TypeRows<'t, 'c, 'n, C> {
 
     /// Where the comparison with a declared row begins: the first place to compare; the answer for the places in front
     /// of it; and, if that is a missing class, how many first places give it. In front of it are the places that the
-    /// row has in common with the one for which a class is missing, if they give the answer of that one, and otherwise
-    /// none.
+    /// row has in common with the one for which a class is missing, if there is one: they give the answer of that one,
+    /// or all fit.
     fn start(&self, row: Row) -> (usize, Answer<'n>, usize)
         requires row { row < length self.now.declared }
         ensures within { result.0 ≤ length self.now.running }
@@ -335,23 +344,26 @@ impl<'t, 'c, 'n, C: Classes> TypeRows<'t, 'c, 'n, C> {
             joined os ≡ both (outcome_of result.1) (joined (drop result.0 os)) }
         ensures end { outcome_of result.1 ≢ yes
             → IsUnfit self.now.types self.now.running (declared_in self.now row) result.2 }
+        ensures fit { outcome_of result.1 ≡ yes
+            → FitsUpTo self.now.types self.now.running (declared_in self.now row) result.0 }
     {
         if let Some(lacking) = &self.lacking {
             let count = self.common_places(lacking.row, row);
             if lacking.end <= count {
                 return (count, Answer::Missing(lacking.name), lacking.end);
             }
+            return (count, Answer::Yes, 0);
         }
         (0, Answer::Yes, 0)
     }
 
-    /// The answer for the places that are not known to fit, the first ones first; and, if it is not yes, how many first
-    /// places do not all fit.
+    /// The answer for the places that are not known to fit, the first ones first; and, if a class is missing, how many
+    /// first places tell it.
     fn answer_anew(&self, row: Row) -> (Answer<'n>, usize)
         requires row { row < length self.now.declared }
         ensures told { let s = self.now.types in outcome_of result.0 ≡ list_answer (type_answer s.classes)
             (types_by s self.now.running) (types_by s (declared_in self.now row)) }
-        ensures end { outcome_of result.0 ≢ yes
+        ensures end { (name : List ℕ) → outcome_of result.0 ≡ missing name
             → IsUnfit self.now.types self.now.running (declared_in self.now row) result.1 }
     {
         let (mut from, mut so_far, mut end) = self.start(row);

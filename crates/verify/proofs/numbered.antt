@@ -6,6 +6,8 @@ pub mod Following
 pub mod Numbered
 pub mod Objects
 pub mod Running
+pub mod Listed
+pub mod Watched
 pub mod Representing
 pub mod Dropping
 pub mod Starting

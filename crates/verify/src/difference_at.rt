@@ -21,7 +21,7 @@ ghost use Rattle.rules.specs.After.{with_stack};
 ghost use Rattle.rules.specs.Table.{typing_rule};
 ghost use Rattle.rules.specs.TypingRules.{targets};
 ghost use Rattle.verify.specs.DifferencesAt.{sought_difference, at_target, at_targets, at_handler, at_handlers, difference_at_of, handler_difference_of};
-ghost use Rattle.verify.specs.private.Ways.{IsWay, IsWayIf, FindsUnlike, IsFirstUnlike, difference_if, first_of_targets, first_of_ways, led_frame, way_difference, with_places};
+ghost use Rattle.verify.specs.private.Ways.{IsWay, IsWayIf, IsAlikeBefore, FindsUnlike, IsFirstUnlike, difference_if, first_of_targets, first_of_ways, led_frame, way_difference, with_places};
 ghost use Rattle.verify.specs.private.pass.Exceptions.{IsEntryBy, AreEntriesBy};
 
 use crate::pass::declared::{declared_at, declared_in};
@@ -194,20 +194,23 @@ fn by_frame(alloc: Global, ways: &[Option<Way>]) -> Result<Vec<(usize, Way)>, Al
     Ok(sorted)
 }
 
-/// One of these ways for which the answer is the one that is looked for and whose place is in front of this one.
+/// One of these ways for which the answer is the one that is looked for and whose place is in front of an end. It is not
+/// asked for at the places in front of another one, where there is none.
 fn unlike_before<C: Classes>(
+    alike: usize,
     end: usize,
     sought: Sought,
     ways: &[(usize, Way)],
     frames: &mut MethodFrames<'_, '_, '_, C>,
 ) -> Result<Option<(usize, Way)>, AllocError>
-    requires { All (λ w. IsWay frames.old w.1) ways.now }
+    requires ways { All (λ w. IsWay frames.old w.1) ways.now }
+    requires alike { All (IsAlikeBefore sought frames.old alike) ways.now }
     ensures same { frames.new ≡ frames.old }
     ensures found { IfOk result (FindsUnlike sought frames.old end ways.now) }
 {
     for i in 0..ways.len() {
         let way = ways[i];
-        if way.0 < end && is_unlike(sought, way.1, frames)? {
+        if alike <= way.0 && way.0 < end && is_unlike(sought, way.1, frames)? {
             return Ok(Some(way));
         }
     }
@@ -217,7 +220,7 @@ fn unlike_before<C: Classes>(
 /// The first of these ways for which the answer is the one that is looked for, with its place.
 ///
 /// Frames that were declared in turn have much in common, so that they are compared in this order, up to one with this
-/// answer. Each of these walks halves the places at which the first one may be.
+/// answer. Each of these walks halves the places at which the first one may be, and asks for those alone.
 fn first_unlike<C: Classes>(
     alloc: Global,
     sought: Sought,
@@ -234,7 +237,7 @@ fn first_unlike<C: Classes>(
     let mut end = ways.len();
     while alike < end {
         let middle = end - (end - alike) / 2;
-        match unlike_before(middle, sought, &sorted, frames)? {
+        match unlike_before(alike, middle, sought, &sorted, frames)? {
             Some(unlike) => {
                 end = unlike.0;
                 first = Some(unlike);

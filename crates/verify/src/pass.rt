@@ -26,6 +26,7 @@ pub mod method;
 mod passing;
 mod representatives;
 mod targets;
+mod watching;
 
 pub use class_types::ClassTypes;
 pub use method::judge_body;

@@ -1,5 +1,5 @@
 -- A declared row for which a class is missing, and what is known of it while the running row stays as it is.
-use Rattle.std.specs.Prelude.{◌≡◌, ◌≢◌, ℕ, ◌≤◌, ◌<◌, List, length, slice_index, Option, IfSome}
+use Rattle.std.specs.Prelude.{◌≡◌, ◌≢◌, ℕ, ◌+◌, ◌≤◌, ◌<◌, List, length, slice_index, Option, IfSome}
 use Rattle.hierarchy.specs.Answer.{Outcome, yes, no, missing}
 use Rattle.frames.specs.Assignable.{type_answer}
 use Rattle.frames.specs.Meaning.{answers}
@@ -19,20 +19,25 @@ abbrev pub answer_for : Numbering → List ℕ → List ℕ → ℕ → Outcome
 answer_for s running wanted place =
     type_answer s.classes (type_by s (slice_index running place)) (type_by s (slice_index wanted place))
 
--- at one of so many first places, the running row does not fit the other one
+-- at so many first places, the running row fits the other one
+abbrev pub FitsUpTo : Numbering → List ℕ → List ℕ → ℕ → Type 0
+FitsUpTo s running wanted end = (k : ℕ) → k < end → answer_for s running wanted k ≡ yes
+
+-- the last of so many first places is the first one at which the running row does not fit the other one
 pub record IsUnfit (s : Numbering) (running wanted : List ℕ) (end : ℕ) : Type 0 where
   pub within : end ≤ length running
   pub place : ℕ
-  pub early : place < end
+  pub last : place + 1 ≡ end
   pub here : answer_for s running wanted place ≢ yes
+  pub before : FitsUpTo s running wanted place
 
--- a class is missing for two rows, and so many first places tell it already
+-- a class is missing for two rows, and the last of so many first places tells it
 pub record Lacks (s : Numbering) (running wanted : List ℕ) (end : ℕ) (name : List ℕ) : Type 0 where
   pub within : end ≤ length running
   pub place : ℕ
-  pub early : place < end
+  pub last : place + 1 ≡ end
   pub here : answer_for s running wanted place ≡ missing name
-  pub before : (k : ℕ) → k < place → answer_for s running wanted k ≡ yes
+  pub before : FitsUpTo s running wanted place
   pub free : (k : ℕ) → k < length running → answer_for s running wanted k ≢ no
 
 -- a class is missing for a declared row

@@ -13,6 +13,7 @@ use Rattle.frames.specs.Conditions.{least}
 use Rattle.frames.specs.Slots.{to_reference}
 use Rattle.type_numbers.specs.Numbers.{Numbering}
 use Rattle.type_numbers.specs.Decoding.{type_by, types_by}
+use Rattle.method_frames.proofs.Lacking.{both_left}
 use Rattle.method_frames.specs.NumberedFrames.{NumberedFrame, NumberedFrames, frame_by}
 use Rattle.method_frames.specs.MapFrames.{frames_by}
 use Rattle.numbered_rules.specs.RunningFrame.{held}
@@ -25,18 +26,12 @@ use Rattle.verify.specs.declared.pass.handlers.Handlers.{Handlers}
 use Rattle.verify.specs.declared.pass.representatives.Representatives.{Representatives}
 use Rattle.verify.specs.private.pass.Finding.{frame_in}
 use Rattle.verify.specs.private.pass.Following.{IsHandler, IsTaken, Comes, IsOpen, IsSettled, AreBegunTaken, Follows, AreAhead, kept_frame, one_handler_at}
-use Rattle.verify.specs.private.pass.Representatives.{TakesLocal, TakesChanges, AreRepresentatives}
+use Rattle.verify.specs.private.pass.Buckets.{AreRepresentatives}
+use Rattle.verify.specs.private.pass.Representatives.{TakesLocal, TakesChanges}
 use Rattle.verify.proofs.numbered.Following.{none_if}
 use Rattle.verify.proofs.numbered.Starting.{has_handler, covering_open, same_one}
 
 -- ---- two answers that are yes
-
-both_left : (a b : Outcome) → both a b ≡ yes → a ≡ yes
-both_left yes b e = refl
-both_left no b e = e
-both_left (missing name) yes e = e
-both_left (missing name) no e = cc
-both_left (missing name) (missing _) e = e
 
 both_right : (a b : Outcome) → both a b ≡ yes → b ≡ yes
 both_right yes b e = e
@@ -214,7 +209,7 @@ follows_later x es at later h le k = record {
 }
 
 -- others stand for frames
-pub follows_dropped : (x : NumberedFrames) (es : List ExceptionEntry) (at : ℕ) (h : Handlers) (rs : Representatives) → AreRepresentatives x.declared rs
+pub follows_dropped : (x : NumberedFrames) (es : List ExceptionEntry) (at : ℕ) (h : Handlers) (rs : Representatives) → AreRepresentatives x.types x.declared rs
     → ((f : ℕ) → at < slice_index h.representatives.until.items f → slice_index rs.until.items f ≡ slice_index h.representatives.until.items f)
     → Follows x es at h → Follows x es at (record h { representatives = rs })
 follows_dropped x es at h rs are same k = record {
@@ -241,7 +236,7 @@ settled_one x h one other rs is there stands comes =
     subst (IsSettled x h.flag rs.until.items) (same_one h.by_start.items h.settled one other is there) (record { stands = stands; comes = comes })
 
 -- one more was compared, or has ended
-pub follows_settled : (x : NumberedFrames) (es : List ExceptionEntry) (at : ℕ) (h : Handlers) (rs : Representatives) (n : ℕ) → n ≡ h.settled + 1 → h.settled < h.begun → AreRepresentatives x.declared rs
+pub follows_settled : (x : NumberedFrames) (es : List ExceptionEntry) (at : ℕ) (h : Handlers) (rs : Representatives) (n : ℕ) → n ≡ h.settled + 1 → h.settled < h.begun → AreRepresentatives x.types x.declared rs
     → ((f : ℕ) → slice_index h.representatives.until.items f ≤ slice_index rs.until.items f)
     → ((one : Handler) → slice_get h.by_start.items h.settled ≡ Some one → at < one.to → IsSettled x h.flag rs.until.items one)
     → Follows x es at h → Follows x es at (record h { representatives = rs; settled = n })

@@ -11,7 +11,7 @@ use Rattle.method_frames.specs.NumberedFrames.{NumberedFrame, NumberedFrames}
 use Rattle.verify.specs.Verdict.{is_covered}
 use Rattle.verify.specs.declared.pass.handlers.Handler.{Handler}
 use Rattle.verify.specs.declared.pass.handlers.Handlers.{Handlers}
-use Rattle.verify.specs.private.pass.Representatives.{AreRepresentatives}
+use Rattle.verify.specs.private.pass.Buckets.{AreRepresentatives}
 use Rattle.verify.specs.private.pass.Following.{IsHandler, AreHandlers, IsOpen, Follows, AreAhead, AreFrom}
 use Rattle.verify.proofs.numbered.Following.{has_entry, covered_by, covered_by_none, begun_covers, covered_starts, covered_ends}
 use Rattle.verify.proofs.numbered.Representing.{some_same}
@@ -53,7 +53,7 @@ greater_of a b c is = elim (cases_lt a b) [
 
 -- before the first instruction
 pub follows_first : (x : NumberedFrames) (es : List ExceptionEntry) (h : Handlers) → AreHandlers x.types x.declared es h.table.items → IsPermutation h.table.items h.by_start.items
-    → IsNonDecreasingBy (λ (one : Handler). one.from) h.by_start.items → h.begun ≡ 0 → h.settled ≡ 0 → h.reach ≡ 0 → h.next_start ≡ 0 → AreRepresentatives x.declared h.representatives → Follows x es 0 h
+    → IsNonDecreasingBy (λ (one : Handler). one.from) h.by_start.items → h.begun ≡ 0 → h.settled ≡ 0 → h.reach ≡ 0 → h.next_start ≡ 0 → AreRepresentatives x.types x.declared h.representatives → Follows x es 0 h
 follows_first x es h a moved rises begun settled reach next are = record {
   entries = a;
   moved = moved;

@@ -1,5 +1,6 @@
 -- Words of the pass over a method's code.
 pub mod Alone
+pub mod Buckets
 pub mod Exceptions
 pub mod Finding
 pub mod Following
@@ -7,3 +8,4 @@ pub mod Maps
 pub mod ClassTypes
 pub mod Objects
 pub mod Representatives
+pub mod Watching

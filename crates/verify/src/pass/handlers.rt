@@ -300,16 +300,25 @@ impl Handlers {
     }
 
     /// Whether the frames of all handlers that were compared, as long as their entries last, take what changed since.
-    fn take_changes<C: Classes>(&self, frames: &mut MethodFrames<'_, '_, '_, C>) -> bool
-        requires { (es : List ExceptionEntry) × (at : ℕ) × Follows frames.old es at self.now }
+    fn take_changes<C: Classes>(
+        &mut self,
+        frames: &mut MethodFrames<'_, '_, '_, C>,
+    ) -> Result<bool, AllocError>
+        requires { (es : List ExceptionEntry) × (at : ℕ) × Follows frames.old es at self.old }
         ensures same { frames.new ≡ frames.old }
-        ensures taken { let x = frames.old in IsTrue result → (es : List ExceptionEntry) (at : ℕ)
-            → Follows x es at self.now → AreBegunTaken x at self.now }
+        ensures followed { let x = frames.old in (es : List ExceptionEntry) (at : ℕ) → Follows x es at self.old
+            → OnOk result (Follows x es at self.new) }
+        ensures ahead { (at : ℕ) → AreAhead at self.old → AreAhead at self.new }
+        ensures taken { let x = frames.old in (es : List ExceptionEntry) (at : ℕ) → Follows x es at self.old
+            → IfOk result (λ taken. IsTrue taken → AreBegunTaken x at self.new) }
     {
         if self.representatives.is_empty() {
-            return true;
+            return Ok(true);
         }
-        frames.flag() == self.flag && self.representatives.take_changes(frames)
+        if frames.flag() != self.flag {
+            return Ok(false);
+        }
+        self.representatives.take_changes(frames)
     }
 
     /// Whether the frame comes to the handlers of all entries that were compared and have not ended, by what changed
@@ -327,12 +336,11 @@ impl Handlers {
         ensures taken { let x = frames.old in (es : List ExceptionEntry) → Follows x es at self.old
             → IfOk result (λ taken. IsTrue taken → AreBegunTaken x at self.new) }
     {
-        self.representatives.shrink(at)?;
-        if self.take_changes(frames) {
+        if self.take_changes(frames)? {
             return Ok(true);
         }
         self.representatives.drop_ended(at)?;
-        Ok(self.take_changes(frames))
+        self.take_changes(frames)
     }
 
     /// Keeps the locals of the running frame, with which the handlers of these entries were compared.
@@ -369,7 +377,7 @@ impl Handlers {
                 if !comes(&handler, frames) {
                     return Ok(false);
                 }
-                self.representatives.add(handler.lead, handler.to, frames)?;
+                self.representatives.add(handler.lead, at, handler.to, frames)?;
             }
             self.settled += 1;
         }

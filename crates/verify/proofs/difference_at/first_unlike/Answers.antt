@@ -4,16 +4,24 @@ use Rattle.std.specs.List.Sorted.{IsPermutation}
 use Rattle.std.proofs.lemmas.List.Sorted.{All-permutation}
 use Rattle.method_frames.specs.NumberedFrames.{NumberedFrames}
 use Rattle.verify.specs.declared.difference_at.Way.{Way}
-use Rattle.verify.specs.private.Ways.{FindsUnlike, IsWay, with_places}
+use Rattle.verify.specs.private.Ways.{FindsUnlike, IsAlikeBefore, IsWay, with_places}
 use Rattle.verify.proofs.Ways.{each_way, first_found, moved_found}
 use Rattle.verify.proofs.difference_at.first_unlike.Goals as goal
 
-pub unlike_before-requires : goal.unlike_before-requires
-unlike_before-requires g c =
+pub unlike_before-requires-clause-ways : goal.unlike_before-requires-clause-ways
+unlike_before-requires-clause-ways g c =
     let all = with_places 0 c.args.ways.now in
     let moved = subst (IsPermutation all) (sym c.deref.ensures.value) c.loop-alike.invariant.moved in
     subst (λ (x : NumberedFrames). All (λ (w : ℕ × Way). IsWay x w.1) c.deref.result.now) (sym c.loop-alike.invariant.same)
     (All-permutation (λ (w : ℕ × Way). IsWay c.args.frames.now w.1) all c.deref.result.now moved (each_way c.args.frames.now 0 c.args.ways.now c.requires))
+
+pub unlike_before-requires-clause-alike : goal.unlike_before-requires-clause-alike
+unlike_before-requires-clause-alike g c =
+    let s = c.args.sought in
+    let all = with_places 0 c.args.ways.now in
+    let moved = subst (IsPermutation all) (sym c.deref.ensures.value) c.loop-alike.invariant.moved in
+    subst (λ (x : NumberedFrames). All (IsAlikeBefore s x c.loop-alike.alike) c.deref.result.now) (sym c.loop-alike.invariant.same)
+    (All-permutation (IsAlikeBefore s c.args.frames.now c.loop-alike.alike) all c.deref.result.now moved c.loop-alike.invariant.alike)
 
 pub loop-alike-preserved-in-Some : goal.loop-alike-preserved-in-Some
 loop-alike-preserved-in-Some g c =

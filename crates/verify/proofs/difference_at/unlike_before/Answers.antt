@@ -5,7 +5,7 @@ use Rattle.std.proofs.lemmas.List.Elements.{All-more}
 use Rattle.method_frames.specs.NumberedFrames.{NumberedFrames}
 use Rattle.verify.specs.private.Ways.{IsAlikeBefore, way_difference}
 use Rattle.verify.proofs.Ways.{no_way, none_there}
-use Rattle.verify.proofs.difference_at.unlike_before.Goals.{else-way-end-via-then-way-end+in_ok-is_unlike+else-branch, else-way-end-via-else-way-end}
+use Rattle.verify.proofs.difference_at.unlike_before.Goals.{else-alike-way-via-then-alike-way-via-then-way-end+in_ok-is_unlike+else-branch, else-alike-way-via-else-alike-way}
 use Rattle.verify.proofs.difference_at.unlike_before.Goals as goal
 
 pub loop-i-preserved : goal.loop-i-preserved

@@ -21,7 +21,8 @@ use Rattle.verify.specs.private.Catching.{caught_answer}
 use Rattle.verify.specs.declared.pass.handlers.Handler.{Handler}
 use Rattle.verify.specs.declared.pass.handlers.Handlers.{Handlers}
 use Rattle.verify.specs.private.pass.Finding.{IsFound}
-use Rattle.verify.specs.private.pass.Representatives.{IsLead, AreRepresentatives}
+use Rattle.verify.specs.private.pass.Buckets.{AreRepresentatives}
+use Rattle.verify.specs.private.pass.Representatives.{IsLead}
 
 -- ---- the table
 
@@ -121,7 +122,7 @@ pub record Follows (x : NumberedFrames) (es : List ExceptionEntry) (at : ℕ) (h
   pub later : AreFrom h.next_start h
   pub settled : (place : ℕ) (one : Handler) → IsOpen at h.settled h place one
       → IsSettled x h.flag h.representatives.until.items one
-  pub representatives : AreRepresentatives x.declared h.representatives
+  pub representatives : AreRepresentatives x.types x.declared h.representatives
 
 -- the entries that are to come begin after the offset
 abbrev pub AreAhead : ℕ → Handlers → Type 0

@@ -6,7 +6,7 @@ use Rattle.type_numbers.specs.Decoding.{types_by}
 use Rattle.method_frames.specs.NumberedRows.{declared_in}
 use Rattle.method_frames.proofs.Holding.{noted_held}
 use Rattle.method_frames.proofs.Walking.{said_known}
-use Rattle.method_frames.proofs.Lacking.{missing_not_yes, row_within, row_lacks, noted_lacking}
+use Rattle.method_frames.proofs.Lacking.{row_within, row_lacks, noted_lacking}
 use Rattle.method_frames.proofs.type_rows.TypeRows.answer.Goals as goal
 
 pub invariant_of-self-in-Missing : goal.invariant_of-self-in-Missing
@@ -19,7 +19,7 @@ invariant_of-self-in-Missing g c =
       lacking = record {
         row = row_within x.types.now x.rows c.args.self.now c.self.view_is c.self.invariant.held.known c.args.row c.requires.row c.in-Missing.name.now told;
         lacks = row_lacks x.types.now x.rows c.args.self.now c.self.view_is c.self.invariant.held.known c.args.row c.requires.row c.in-Missing.name.now told c.answer_anew-end.result.1
-            (c.answer_anew-end.ensures.end (λ e. missing_not_yes c.in-Missing.name.now (told_name ∙ e)));
+            (c.answer_anew-end.ensures.end c.in-Missing.name.now (sym told_name));
       };
     }
 

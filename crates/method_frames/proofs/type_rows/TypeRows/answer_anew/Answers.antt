@@ -4,8 +4,8 @@ use Rattle.frames.specs.FrameAssignable.{both}
 use Rattle.frames.specs.PackedFrames.{joined}
 use Rattle.method_frames.specs.NumberedRows.{declared_in}
 use Rattle.method_frames.specs.private.TypeRows.{row_answers}
-use Rattle.method_frames.proofs.Walking.{at_no, past, next_within, here_unfit, at_end}
-use Rattle.method_frames.proofs.Lacking.{yes_alone}
+use Rattle.method_frames.proofs.Walking.{at_no, past, next_within, here_unfit, here_fits, at_end}
+use Rattle.method_frames.proofs.Lacking.{missing_not_yes, yes_alone, both_left}
 use Rattle.method_frames.proofs.type_rows.TypeRows.answer_anew.Goals as goal
 
 pub returns-in-No-clause-told : goal.returns-in-No-clause-told
@@ -13,12 +13,6 @@ returns-in-No-clause-told g c =
     let x = c.self.inside in
     at_no x.types.now x.rows c.args.self.now c.self.view_is c.self.invariant.held.known c.args.row c.requires.row (outcome_of c.loop-place.so_far) c.loop-place.from c.loop-place.invariant.rest
     c.in-Some.place c.in-Some.ensures.first (outcome_of c.answer_at-answer.result) c.answer_at-answer.ensures (ap outcome_of c.in-No.is)
-
-pub returns-in-No-clause-end : goal.returns-in-No-clause-end
-returns-in-No-clause-end g c h =
-    let x = c.self.inside in
-    here_unfit x.types.now x.rows c.args.self.now c.self.view_is c.self.invariant.held.known c.args.row c.requires.row (outcome_of c.loop-place.so_far) c.loop-place.from c.loop-place.invariant.rest
-    c.in-Some.place c.in-Some.ensures.first (outcome_of c.answer_at-answer.result) c.answer_at-answer.ensures (λ e. h (sym (ap outcome_of c.in-No.is) ∙ e))
 
 pub loop-place-preserved-in-Yes : goal.loop-place-preserved-in-Yes
 loop-place-preserved-in-Yes g c =
@@ -33,7 +27,12 @@ loop-place-preserved-in-Yes g c =
           ∙ ap (λ r. both r (joined (drop (c.in-Some.place + 1) os))) (sym c.both-with.ensures);
       unfit = λ h. here_unfit x.types.now x.rows c.args.self.now c.self.view_is c.self.invariant.held.known c.args.row c.requires.row (outcome_of c.loop-place.so_far) c.loop-place.from c.loop-place.invariant.rest
           c.in-Some.place c.in-Some.ensures.first (outcome_of c.answer_at-answer.result) c.answer_at-answer.ensures
+          (c.loop-place.invariant.fit (ap outcome_of c.in-Yes.is))
           (λ e. h (c.both-with.ensures ∙ ap (λ r. both (outcome_of r) (outcome_of c.answer_at-answer.result)) c.in-Yes.is ∙ e));
+      fit = λ y. here_fits x.types.now x.rows c.args.self.now c.self.view_is c.self.invariant.held.known c.args.row c.requires.row (outcome_of c.loop-place.so_far) c.loop-place.from c.loop-place.invariant.rest
+          c.in-Some.place c.in-Some.ensures.first (outcome_of c.answer_at-answer.result) c.answer_at-answer.ensures
+          (c.loop-place.invariant.fit (ap outcome_of c.in-Yes.is))
+          (sym (c.both-with.ensures ∙ ap (λ r. both (outcome_of r) (outcome_of c.answer_at-answer.result)) c.in-Yes.is) ∙ y);
     }
 
 pub loop-place-preserved : goal.loop-place-preserved
@@ -48,6 +47,7 @@ loop-place-preserved g c =
           c.in-Some.place c.in-Some.ensures.first (outcome_of c.answer_at-answer.result) c.answer_at-answer.ensures
           ∙ ap (λ r. both r (joined (drop (c.in-Some.place + 1) os))) (sym c.both-with.ensures);
       unfit = λ h. c.loop-place.invariant.unfit (yes_alone c.loop-place.so_far c.in_default-so_far.not-Yes);
+      fit = λ y. absurd (yes_alone c.loop-place.so_far c.in_default-so_far.not-Yes (both_left (outcome_of c.loop-place.so_far) (outcome_of c.answer_at-answer.result) (sym c.both-with.ensures ∙ y)));
     }
 
 pub returns-clause-told : goal.returns-clause-told
@@ -57,4 +57,4 @@ returns-clause-told g c =
     c.loop-place.invariant.within c.in_default.ensures.first
 
 pub returns-clause-end : goal.returns-clause-end
-returns-clause-end g c h = c.loop-place.invariant.unfit h
+returns-clause-end g c name e = c.loop-place.invariant.unfit (λ y. missing_not_yes name (sym e ∙ y))

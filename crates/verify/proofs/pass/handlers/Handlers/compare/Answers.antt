@@ -6,7 +6,7 @@ use Rattle.numbered_rules.specs.RunningFrame.{held}
 use Rattle.verify.specs.declared.pass.handlers.Handler.{Handler}
 use Rattle.verify.specs.declared.pass.handlers.Handlers.{Handlers}
 use Rattle.verify.specs.private.pass.Following.{IsHandler, Comes, Follows, AreAhead}
-use Rattle.verify.specs.private.pass.Representatives.{AreRepresentatives}
+use Rattle.verify.specs.private.pass.Buckets.{AreRepresentatives}
 use Rattle.verify.proofs.numbered.Starting.{entry_of_start, same_one}
 use Rattle.verify.proofs.numbered.Settling.{follows_settled, settled_one, kept_comes, none_against_all, kept_taken}
 use Rattle.verify.proofs.pass.handlers.Handlers.compare.Goals as goal
@@ -33,7 +33,7 @@ add-requires-clause-frame g c =
 pub add-requires-clause-representatives : goal.add-requires-clause-representatives
 add-requires-clause-representatives g c =
     let k = c.loop-self.invariant.follows c.requires.follows.0 c.requires.follows.1 in
-    subst (λ (z : NumberedFrames). AreRepresentatives z.declared c.loop-self.self.representatives) (sym (c.comes.ensures.same ∙ c.loop-self.invariant.same)) k.representatives
+    subst (λ (z : NumberedFrames). AreRepresentatives z.types z.declared c.loop-self.self.representatives) (sym (c.comes.ensures.same ∙ c.loop-self.invariant.same)) k.representatives
 
 -- what is so of the table when one more entry was gone through
 record Goes (x : NumberedFrames) (at : ℕ) (start h : Handlers) : Type 0 where
@@ -59,7 +59,7 @@ loop-self-preserved g c =
               ahead = c.loop-self.invariant.ahead;
               follows = λ es k.
                   let now = c.loop-self.invariant.follows es k in
-                  follows_settled x es at h w.add.new.self (h.settled + 1) refl c.loop-self-test.true (subst (λ (z : NumberedFrames). AreRepresentatives z.declared w.add.new.self) same added.representatives) added.others
+                  follows_settled x es at h w.add.new.self (h.settled + 1) refl c.loop-self-test.true (subst (λ (z : NumberedFrames). AreRepresentatives z.types z.declared w.add.new.self) same added.representatives) added.others
                   (λ other there lasts. settled_one x h one other w.add.new.self c.index.ensures there added.added (kept_comes x h.flag one c.requires.kept (c.loop-self.invariant.flag ∙ c.requires.flag) comes)) now;
             }),
           ))
