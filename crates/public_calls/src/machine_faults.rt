@@ -207,7 +207,7 @@ fn state<'a>(
     })
 }
 
-/// What comes of a state where nothing is chosen but to go on.
+/// The answer to a state where nothing is chosen but to go on.
 #[derive(Clone, Copy)]
 enum Expected {
     /// The state is a fault.
