@@ -97,6 +97,32 @@ OF_CONSTRUCTORS = """
 """
 
 
+# Very many handlers: an int in local 0 becomes a float at 4. Each wants something of it, "" for nothing, over a range.
+INT_BEFORE, INT_LATER, FLOAT_LATER, ANY = ("int", 2, 4), ("int", 2, 5), ("float", 4, 6), ("", 2, 6)
+OF_MANY = [
+    ([INT_BEFORE, ANY] * 10, "verified"),
+    ([("int", 2, 3), ANY, INT_BEFORE, ("", 2, 4)] * 5, "verified"),
+    ([INT_BEFORE, ANY] * 10 + [FLOAT_LATER, ANY] * 10, "verified"),
+    ([FLOAT_LATER, ANY, INT_BEFORE] * 9, "verified"),
+    ([INT_BEFORE, ANY] * 10 + [INT_LATER], "refused 73 at 4"),
+    ([INT_LATER] + [ANY, INT_BEFORE] * 10, "refused 73 at 4"),
+    ([INT_BEFORE, ANY] * 10 + [("int", 4, 5)], "refused 73 at 4"),
+    ([ANY, INT_BEFORE] * 10 + [("float", 3, 6)] + [ANY] * 3, "refused 73 at 3"),
+    ([ANY] * 8 + [INT_LATER], "refused 73 at 4"),
+    ([ANY] * 9 + [INT_BEFORE], "verified"),
+]
+
+
+def of_many():
+    """The rows of OF_MANY, by words."""
+    for wanted, verdict in OF_MANY:
+        code = "; ".join(["iconst_0; istore_0; fconst_0; fstore_0; nop; return", *["pop; return"] * len(wanted)])
+        places = range(6, 6 + 2 * len(wanted), 2)
+        frames = "; ".join(f"{at} full [{local}] [class java/lang/Throwable]" for at, (local, _, _) in zip(places, wanted))
+        entries = ", ".join(f"{start} {end} {at} any" for at, (_, start, end) in zip(places, wanted))
+        yield f"()V 1 1 | {code} | {frames} | {entries} | {verdict}"
+
+
 def handler(words, constants):
     """An entry of the exception table by its numbers."""
     start, end, to, caught = words.split()
@@ -122,3 +148,4 @@ def with_handlers():
     """A name for each method, the files of the class that has it alone, and its verdict."""
     yield from rows_of(ROWS, "f", STATIC)
     yield from rows_of(OF_CONSTRUCTORS, "<init>", 0)
+    yield from rows_of("\n".join(of_many()), "f", STATIC)
