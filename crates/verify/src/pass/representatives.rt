@@ -34,7 +34,7 @@ pub struct Bucket {
     list: Vec<usize>,
     // None of them stops before this offset, in bytes.
     lasts: u16,
-    // What they want of local variables.
+    // Tells which numbers they want of local variables.
     watch: Watch,
 }
 

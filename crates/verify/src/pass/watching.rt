@@ -120,7 +120,7 @@ impl Wanted {
     }
 }
 
-/// What the frames of a list want of a group of local variables.
+/// Tells which numbers the frames of a list want of a group of local variables.
 #[derive(Drop)]
 pub struct Group {
     alloc: Global,
