@@ -27,6 +27,8 @@ HEAD = """# Instructions
 `docs/make` makes this page of what the program `crates/opcode_table` prints of the tables that the decoder, the
 encoder, `mnemonic` and `act` are proved against.
 
+The rule of each is in `crates/rules/specs/Table.antt`.
+
 - *Operands*: what follows the opcode; `u` is unsigned, `s` signed, with the number of bytes.
 - *Meaning*: the act without its form; `LoadFrom(Int, 2)` is the load of an `int` from local variable 2. After `wide`
   the modified opcode has the meaning.
