@@ -99,9 +99,9 @@ def news(count, place=1):
     return lambda constants: store(b"\xbb" + at(constants.class_of(b"K")), place) * count
 
 
-def over_frames(count, frames, entries=(b"\xfc\x00\x00\x01", b"\xfa\x00\x00")):
+def over_frames(count, frames, entries=(b"\xfc\x00\x00\x01", b"\xfa\x00\x00"), most=4):
     """Handlers with int or Top in local 0 in turn, over as many frames that append a local and chop it in turn."""
-    method = Covered(Constants(), [INT], RETURN * frames + NOP, 4)
+    method = Covered(Constants(), [INT], RETURN * frames + NOP, most)
     method.inner = list(entries) * (frames // 2)
     for i in range(count):
         method.cover(method.add_frame([INT] if i % 2 else []))
@@ -209,6 +209,8 @@ FILES = {
     "20,000 handlers with int and an interface or Object in turn over 8,000 stores of as many classes to local 1": lambda: covered(20_000, [[INT, 0], [TOP, 1]], casts(MANY_CLASSES, 1), 2, [INT, NULL], [b"I", OBJECT], [b"I"]),
     "20,000 handlers with int or Top in local 0 in turn over 40,000 frames that append a local and chop it in turn": lambda: over_frames(20_000, 40_000),
     "20,000 handlers with int or Top in local 0 in turn over 40,000 frames that append three locals and chop them in turn": lambda: over_frames(20_000, 40_000, (b"\xfe\x00\x00\x01\x02\x05", b"\xf8\x00\x00")),
+    "20,000 handlers with int or Top in local 0 in turn over 40,000 frames that append three longs and chop them in turn": lambda: over_frames(20_000, 40_000, (b"\xfe\x00\x00\x04\x04\x04", b"\xf8\x00\x00"), 7),
+    "15,000 handlers that each want another absent class in local 0 over 15,000 stores of null": lambda: covered(15_000, [[i] for i in range(15_000)], lambda _: store(ACONST_NULL, 0) * 15_000, 1, [NULL], [b"x%d" % i for i in range(15_000)]),
     "20,000 handlers with int or Top in local 0 in turn, each of which begins with a store to local 1": lambda: staggered(20_000, 20_000),
     "20,000 handlers with int or Top in local 0 in turn, each of which ends with a store to local 1": lambda: staggered(20_000, 20_000, True),
     "20,000 handlers that want two interfaces in turn in local 0 over 20,000 stores of three absent classes": lambda: covered(20_000, INTERFACES, loads(20_000), 4, [2, 2, 3, 4], [*NAMES, b"X", b"Y", b"Z"], NAMES),

@@ -7,6 +7,7 @@
 //! - `exceptions`: the exception table, judged and made ready for the pass.
 //! - `handlers`: the exception handlers during the pass.
 //! - `representatives`: frames at handlers that stand for others.
+//! - `watching`: the numbers that these frames want of a local variable.
 //! - `members`: the member that an instruction uses on an object, and whether it calls a constructor on the own object.
 //! - `judging`: one instruction, and how much of it is judged.
 //! - `passing`: one pass over the code, which carries one frame.
