@@ -57,7 +57,10 @@ fn types_as_slots(rt: HostRuntime) {
 }
 
 /// Types and their slots where A is the fourth class.
-const SLOTS_OF_THE_FOURTH: [(VType<'static>, u32); 2] = [(A, 0x0700_0003), (ARRAY_OF_A, 0x0701_0003)];
+const SLOTS_OF_THE_FOURTH: [(VType<'static>, u32); 2] = [
+    (A, 0x0700_0003),
+    (ARRAY_OF_A, 0x0701_0003),
+];
 
 #[test]
 fn types_as_slots_by_places(rt: HostRuntime) {

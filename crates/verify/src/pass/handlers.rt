@@ -377,7 +377,8 @@ impl Handlers {
                 if !comes(&handler, frames) {
                     return Ok(false);
                 }
-                self.representatives.add(handler.lead, at, handler.to, frames)?;
+                self.representatives
+                    .add(handler.lead, at, handler.to, frames)?;
             }
             self.settled += 1;
         }

@@ -19,13 +19,15 @@ returns c =
     let list = c.in_ok-put.ensures.list in
     let watch = c.in_ok-put.ensures.watch in
     let last = frame_last was now frame list watch in
-    record { put = record {
-      buckets = λ s ds room less inside are.
-          let grown_are = said.buckets s ds room are in
-          buckets_exchanged bs place was now here s ds room (bucket_more was now frame list watch s ds room less inside (grown_are place was here)) grown_are;
-      kept = λ f n. (n.0, in_exchanged bs place was now here (frames_kept was now frame list watch) n.0 f (said.kept n.0 f n.1));
-      named = (place, record { bucket = now; there = set_here bs place now lt; place = last.0; here = last.1 });
-      until = said.until;
-      moved = said.moved;
-      more = (let more = said.more in let long = length-set bs place now in omega (arith, more, long));
-    } }
+    record {
+      put = record {
+        buckets = λ s ds room less inside are.
+            let grown_are = said.buckets s ds room are in
+            buckets_exchanged bs place was now here s ds room (bucket_more was now frame list watch s ds room less inside (grown_are place was here)) grown_are;
+        kept = λ f n. (n.0, in_exchanged bs place was now here (frames_kept was now frame list watch) n.0 f (said.kept n.0 f n.1));
+        named = (place, record { bucket = now; there = set_here bs place now lt; place = last.0; here = last.1 });
+        until = said.until;
+        moved = said.moved;
+        more = (let more = said.more in let long = length-set bs place now in omega (arith, more, long));
+      };
+    }
