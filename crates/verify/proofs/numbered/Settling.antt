@@ -1,6 +1,6 @@
 -- A frame that comes to the handlers of entries, by what changed since the frame was kept that came to them.
 use Rattle.std.proofs.Common.{◌≡◌, ◌⊎◌, ◌∙◌, ℕ, suc, ◌+◌, ◌≤◌, ◌<◌, Bool, true, false, ◌||◌, ◌&&◌, if◌then◌else◌, List, [], ◌∷◌, ◌++◌, length, get_or, slice_get, Some, None, refl, sym, ap, ap₂, subst, inl, inr, arith}
-use Rattle.std.specs.Prelude.{slice_index}
+use Rattle.std.specs.Prelude.{slice_index, Result, Ok, Err, IfOk, OnOk, IsTrue}
 use Rattle.std.specs.Bool.{beq}
 use Rattle.std.proofs.lemmas.Bool.{cases_lt}
 use Rattle.classfile.specs.Methods.{ExceptionEntry, covers}
@@ -144,12 +144,12 @@ module _ (x : NumberedFrames) where
         changes_taken e one is h.flag own even (so.comes e is) (each one.lead (omega (arith, stands, lasts)))
 
     -- there are none where no frame stands for others
-    pub none_settled : h.representatives.list.items ≡ [] → AreBegunTaken x at h
+    pub none_settled : h.representatives.buckets.items ≡ [] → AreBegunTaken x at h
     none_settled none place one o e is =
         let stands = (k.settled place one o).stands in
         let lasts = o.lasts in
         let n = k.representatives.named one.lead (omega (arith, stands, lasts)) in
-        absurd (let q : slice_get [] n.place ≡ Some n.one = sym (ap (λ rs. slice_get rs n.place) none) ∙ n.here in cc)
+        absurd (let q : slice_get [] n.0 ≡ Some n.1.bucket = sym (ap (λ bs. slice_get bs n.0) none) ∙ n.1.there in cc)
 
     -- all that cover the offset were compared, and come
     pub none_against_all : AreAhead at h → h.settled ≡ h.begun → AreBegunTaken x at h → least (handler_conditions s.classes (frames_by s ds) at (held x) es) ≡ None
@@ -228,6 +228,18 @@ follows_dropped x es at h rs are same k = record {
       record { stands = omega (arith, stands, is); comes = so.comes };
   representatives = are;
 }
+
+-- more is known of the frames that stand for others
+module _ (x : NumberedFrames) (es : List ExceptionEntry) (at : ℕ) (h : Handlers) (rs : Representatives) (k : Follows x es at h) (until : rs.until ≡ h.representatives.until) where
+  pub follows_learned : {R E : Type 0} (r : Result R E) → OnOk r (AreRepresentatives x.types x.declared rs) → OnOk r (Follows x es at (record h { representatives = rs }))
+  follows_learned (Ok v) are = follows_dropped x es at h rs are (λ f lt. ap (λ u. slice_index u.items f) until) k
+  follows_learned (Err e) are = tt
+
+  pub taken_learned : {E : Type 0} (r : Result Bool E) → x.running.flag ≡ h.flag → length x.running.locals ≡ length x.kept
+      → IfOk r (λ all. IsTrue all → (f : ℕ) → 0 < slice_index h.representatives.until.items f → TakesChanges x f (length x.running.locals))
+      → IfOk r (λ all. IsTrue all → AreBegunTaken x at (record h { representatives = rs }))
+  taken_learned (Ok all) own even takes = λ t place one o. changes_settled x es at h k own even (takes t) place one (record { early = o.early; here = o.here; lasts = o.lasts })
+  taken_learned (Err e) own even takes = tt
 
 -- an entry was compared, and a frame stands for that of its handler
 pub settled_one : (x : NumberedFrames) (h : Handlers) (one other : Handler) (rs : Representatives) → one ≡ get_or h.by_start.items h.settled one → slice_get h.by_start.items h.settled ≡ Some other

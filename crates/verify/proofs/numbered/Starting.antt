@@ -14,7 +14,7 @@ use Rattle.verify.specs.declared.pass.handlers.Handlers.{Handlers}
 use Rattle.verify.specs.private.pass.Buckets.{AreRepresentatives}
 use Rattle.verify.specs.private.pass.Following.{IsHandler, AreHandlers, IsOpen, Follows, AreAhead, AreFrom}
 use Rattle.verify.proofs.numbered.Following.{has_entry, covered_by, covered_by_none, begun_covers, covered_starts, covered_ends}
-use Rattle.verify.proofs.numbered.Representing.{some_same}
+use Rattle.verify.proofs.numbered.Listed.{some_same}
 
 -- ---- an entry and its handler
 

@@ -315,10 +315,10 @@ impl Handlers {
         if self.representatives.is_empty() {
             return Ok(true);
         }
-        if frames.flag() != self.flag {
-            return Ok(false);
+        if frames.flag() == self.flag {
+            return self.representatives.take_changes(frames);
         }
-        self.representatives.take_changes(frames)
+        Ok(false)
     }
 
     /// Whether the frame comes to the handlers of all entries that were compared and have not ended, by what changed
@@ -332,7 +332,7 @@ impl Handlers {
         ensures same { frames.new ≡ frames.old }
         ensures followed { let x = frames.old in (es : List ExceptionEntry) → Follows x es at self.old
             → OnOk result (Follows x es at self.new) }
-        ensures ahead { AreAhead at self.old → OnOk result (AreAhead at self.new) }
+        ensures ahead { AreAhead at self.old → AreAhead at self.new }
         ensures taken { let x = frames.old in (es : List ExceptionEntry) → Follows x es at self.old
             → IfOk result (λ taken. IsTrue taken → AreBegunTaken x at self.new) }
     {
