@@ -22,7 +22,6 @@ types that are assignable to others, that are not, and that compare a class whic
 frames that are assignable to others, and that are not | assignability::frames
 seven classes below one another: which is below which, and how many entries of a row were looked at | ancestor_rows::a_line_of_classes
 a step of a method, a fault, and a choice of which nothing comes | machine_steps::ends_and_faults
-a state of each kind of fault, beside states that are none | machine_faults::each_kind_of_fault
 """
 
 

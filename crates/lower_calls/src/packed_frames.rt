@@ -56,22 +56,6 @@ fn types_as_slots(rt: HostRuntime) {
     }
 }
 
-/// Types and their slots where A is the fourth class.
-const SLOTS_OF_THE_FOURTH: [(VType<'static>, u32); 2] = [
-    (A, 0x0700_0003),
-    (ARRAY_OF_A, 0x0701_0003),
-];
-
-#[test]
-fn types_as_slots_by_places(rt: HostRuntime) {
-    let mut list = setting(rt.alloc());
-    list.swap(1, 3);
-    match Rows::new(rt.alloc(), &list, hasher()) {
-        Ok(classes) => assert!(rt; are_packed(&classes, &SLOTS_OF_THE_FOURTH)),
-        Err(_) => panic!(rt; "a hierarchy"),
-    }
-}
-
 /// The answer of two packed frames, of which the second is wanted.
 fn packed_answer<'n, C: Classes>(
     alloc: Global,

@@ -5,7 +5,6 @@
 //! | File | What it tests |
 //! |---|---|
 //! | `machine_steps`, `object_steps` | `machine`: single steps |
-//! | `machine_faults` | `machine`: each kind of fault |
 //! | `walks`, `walk_choices` | `machine`: steps by a list of choices, from where a method begins |
 //! | `instruction_rules` | `verify`: single instructions by their rules |
 //! | `verdicts` | `verify`: verdicts and reports |
@@ -35,8 +34,6 @@ mod file_answers;
 mod instruction_rules;
 #[cfg(test)]
 mod judged_files;
-#[cfg(test)]
-mod machine_faults;
 #[cfg(test)]
 mod machine_steps;
 #[cfg(test)]
