@@ -150,8 +150,19 @@ def of_equal_rows(short, width, type_of=INT, long=1):
     return [method.made()], LINES, 0
 
 
-def visited(frames, blocks, stores, entries, come=(b"Y", b"Z"), wanted=b"I", known=(b"I",)):
-    """Stores to each block in turn, of two classes in turn; entries that begin there lead in turn to frames, each of which wants another class in all locals."""
+def of_lengths(lengths, each, stores, first=256):
+    """So many handlers of each of these lengths, each half of the one before it, over stores to a local each, with int or Top in local 0 in turn."""
+    body = in_turn(INTS_AND_FLOATS, range(first, first + stores), stores)
+    method = Covered(Constants(), [INT], body, first + stores)
+    for length in range(lengths):
+        for i in range(each):
+            method.cover(method.add_frame([INT] if i % 2 else []), 0, (stores >> length) * 5)
+    return [method.made()], LINES, 0
+
+
+def visited(frames, blocks, stores, entries, come=(b"Y", b"Z"), wanted=b"I", known=(b"I",), refusing=False):
+    """Stores to each block in turn, of two classes in turn; entries that begin there lead in turn to frames, each of which wants another class in all locals.
+    Between them may be entries of handlers that want the class that was stored last, and do not take the next one."""
     constants = Constants()
     types = [class_named(constants, it) for it in come]
     size = 5
@@ -161,6 +172,9 @@ def visited(frames, blocks, stores, entries, come=(b"Y", b"Z"), wanted=b"I", kno
     for i in range(entries):
         start = i * stores // entries * size
         method.cover(places[i % frames], start, start + size)
+    last = [[method.add_frame(with_types({16 * b + 2: it})) for it in types] for b in range(blocks if refusing else 0)]
+    for i in range(stores - 1 if refusing else 0):
+        method.cover(last[i % blocks][i // blocks % 2], (i + 1) * size, (i + 2) * size)
     return [method.made(), *map(interface, known)], LINES, 0
 
 
@@ -211,6 +225,9 @@ FILES = {
     "20,000 handlers with int or Top in local 0 in turn over 40,000 frames that append three locals and chop them in turn": lambda: over_frames(20_000, 40_000, (b"\xfe\x00\x00\x01\x02\x05", b"\xf8\x00\x00")),
     "20,000 handlers with int or Top in local 0 in turn over 40,000 frames that append three longs and chop them in turn": lambda: over_frames(20_000, 40_000, (b"\xfe\x00\x00\x04\x04\x04", b"\xf8\x00\x00"), 7),
     "15,000 handlers that each want another absent class in local 0 over 15,000 stores of null": lambda: covered(15_000, [[i] for i in range(15_000)], lambda _: store(ACONST_NULL, 0) * 15_000, 1, [NULL], [b"x%d" % i for i in range(15_000)]),
+    "30,000 handlers that each want another absent class in local 0 over 15,000 stores of null": lambda: covered(30_000, [[i] for i in range(30_000)], lambda _: store(ACONST_NULL, 0) * 15_000, 1, [NULL], [b"x%d" % i for i in range(30_000)]),
+    "24 handlers of each of 12 lengths over 12,000 stores to a local each": lambda: of_lengths(12, 24, 12_000),
+    "9 handlers of each of 12 lengths over 12,000 stores to a local each": lambda: of_lengths(12, 9, 12_000),
     "20,000 handlers with int or Top in local 0 in turn, each of which begins with a store to local 1": lambda: staggered(20_000, 20_000),
     "20,000 handlers with int or Top in local 0 in turn, each of which ends with a store to local 1": lambda: staggered(20_000, 20_000, True),
     "20,000 handlers that want two interfaces in turn in local 0 over 20,000 stores of three absent classes": lambda: covered(20_000, INTERFACES, loads(20_000), 4, [2, 2, 3, 4], [*NAMES, b"X", b"Y", b"Z"], NAMES),
@@ -233,5 +250,6 @@ FILES = {
     "15,000 entries that lead to 100 frames of 50 blocks in turn, over 7,500 stores to each block in turn": lambda: visited(100, 50, 7_500, 15_000),
     "60,000 entries that lead to 300 frames of 40 blocks of Object in turn, over stores of arrays": lambda: visited(300, 40, 7_800, 60_000, (b"[I", b"[[J"), OBJECT, ()),
     "60,000 entries that lead to 300 frames of 40 blocks of arrays of Object in turn, over stores of arrays": lambda: visited(300, 40, 7_800, 60_000, (b"[[I", b"[LK;"), b"[Ljava/lang/Object;", ()),
+    "52,000 entries that lead to 300 frames of 40 blocks in turn, and one between the stores that does not take the next": lambda: visited(300, 40, 7_800, 52_000, refusing=True),
     "3,600 stores to 60 blocks in turn, each before a branch to one of 60 frames in turn": lambda: branched(60, 60, 3_600),
 }

@@ -1,6 +1,6 @@
 -- The first difference on a list of ways to declared frames.
-use Rattle.std.proofs.Common.{◌≡◌, ◌∙◌, ℕ, zero, suc, ◌+◌, ◌≤◌, ◌<◌, ℤ, pos, true, false, true≢false, is_some, List, [], ◌∷◌, length, Option, Some, None, option_map, refl, sym, ap, arith}
-use Rattle.std.specs.Prelude.{◌≢◌, All, Contains}
+use Rattle.std.proofs.Common.{◌≡◌, ◌∙◌, ℕ, zero, suc, ◌+◌, ◌≤◌, ◌<◌, ℤ, pos, true, false, true≢false, is_some, List, [], ◌∷◌, length, Option, Some, None, option_map, refl, sym, ap, subst, inl, inr, arith}
+use Rattle.std.specs.Prelude.{◌≢◌, All, Contains, IfSome}
 use Rattle.std.specs.Option.{option_or}
 use Rattle.std.specs.List.Sorted.{IsPermutation}
 use Rattle.std.proofs.lemmas.List.{length-map}
@@ -27,7 +27,7 @@ use Rattle.verify.specs.TypeSafety.{caught_frame}
 use Rattle.verify.specs.DifferencesAt.{DifferenceAtFact, sought_difference, placed, from_declared, at_target, at_targets, at_handler, at_handlers}
 use Rattle.verify.specs.declared.difference_at.Way.{Way}
 use Rattle.verify.specs.declared.pass.exceptions.Entry.{Entry}
-use Rattle.verify.specs.private.Ways.{IsWay, IsWayIf, IsAlikeBefore, FindsUnlike, IsFirstUnlike, difference_if, first_of_ways, led_frame, way_difference, with_places}
+use Rattle.verify.specs.private.Ways.{IsWay, IsWayIf, IsPassed, IsAlikeBefore, FindsUnlike, IsFirstUnlike, difference_if, first_of_ways, led_frame, way_difference, with_places}
 use Rattle.verify.specs.private.pass.Exceptions.{IsEntryBy}
 use Rattle.verify.specs.private.pass.Finding.{IsFound}
 use Rattle.verify.proofs.numbered.Following.{begun_covers}
@@ -75,6 +75,13 @@ module _ (s : Sought) (x : NumberedFrames) where
         ∙ ap (λ k. from_declared s x.types.classes (caught_frame e (held x)) k (Some declared)) (sym is.handler ∙ sym there)
         ∙ ap (λ t. from_declared s x.types.classes (with_stack (held x) (t ∷ [])) w.at (Some declared)) (sym (number_read x.types y.caught (to_reference e.caught) is.caught))
         ∙ ap (λ caught. from_declared s x.types.classes (led_frame x caught) w.at (Some declared)) (sym alone))
+
+-- a way that is passed over has no difference in front of the end
+pub passed_alike : (s : Sought) (x : NumberedFrames) (alike end : ℕ) (last : Option Way) (w : ℕ × Way) → IfSome last (λ (l : Way). way_difference s x l ≡ None)
+    → IsAlikeBefore s x alike w → IsPassed alike end last w → IsAlikeBefore s x end w
+passed_alike s x alike end last w none before (inl front) lt = before front
+passed_alike s x alike end last w none before (inr (inl behind)) lt = absurd (omega (arith, lt, behind))
+passed_alike s x alike end last w none before (inr (inr same)) lt = subst (λ (o : Option Way). IfSome o (λ (l : Way). way_difference s x l ≡ None)) same none
 
 -- ---- many ways
 

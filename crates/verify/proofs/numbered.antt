@@ -14,6 +14,7 @@ pub mod Starting
 pub mod Refusing
 pub mod Targets
 pub mod Settling
+pub mod Catching
 pub mod Maps
 pub mod TableEntries
 pub mod ClassTyped

@@ -1,7 +1,7 @@
 //! The first difference of a frame that leads to a branch target, or to the handler of an exception, from the frame
 //! that is declared there, or the first place at which their comparison asks for a class that is missing (JVMS
 //! 4.10.1.6).
-ghost use Rattle.std.specs.Prelude.{◌≡◌, ◌∷◌, [], List, All, is_some, length, option_map, IfOk};
+ghost use Rattle.std.specs.Prelude.{◌≡◌, ◌<◌, ◌∷◌, [], false, Some, List, All, is_some, length, option_map, IfOk, IsTrue};
 ghost use Rattle.std.specs.List.Sorted.{IsPermutation};
 ghost use Rattle.classfile.specs.Methods.{ExceptionEntry, Method};
 ghost use Rattle.hierarchy.specs.Answer.{outcome_of};
@@ -21,7 +21,7 @@ ghost use Rattle.rules.specs.After.{with_stack};
 ghost use Rattle.rules.specs.Table.{typing_rule};
 ghost use Rattle.rules.specs.TypingRules.{targets};
 ghost use Rattle.verify.specs.DifferencesAt.{sought_difference, at_target, at_targets, at_handler, at_handlers, difference_at_of, handler_difference_of};
-ghost use Rattle.verify.specs.private.Ways.{IsWay, IsWayIf, IsAlikeBefore, FindsUnlike, IsFirstUnlike, difference_if, first_of_targets, first_of_ways, led_frame, way_difference, with_places};
+ghost use Rattle.verify.specs.private.Ways.{IsWay, IsWayIf, IsPassed, IsAlikeBefore, FindsUnlike, IsFirstUnlike, difference_if, first_of_targets, first_of_ways, led_frame, way_difference, with_places};
 ghost use Rattle.verify.specs.private.pass.Exceptions.{IsEntryBy, AreEntriesBy};
 
 use crate::pass::declared::{declared_at, declared_in};
@@ -194,8 +194,40 @@ fn by_frame(alloc: Global, ways: &[Option<Way>]) -> Result<Vec<(usize, Way)>, Al
     Ok(sorted)
 }
 
+/// Whether a way is another one, if there is one.
+fn is_repeated(way: Way, last: Option<Way>) -> bool
+    ensures { IsTrue result → last ≡ Some way }
+{
+    match last {
+        Some(last) => {
+            way.at == last.at && way.frame == last.frame && is_same(way.caught, last.caught)
+        }
+        None => false,
+    }
+}
+
+/// Whether two numbers are the same, or neither is there.
+fn is_same(number: Option<u32>, other: Option<u32>) -> bool
+    ensures { IsTrue result → number ≡ other }
+{
+    match (number, other) {
+        (Some(number), Some(other)) => number == other,
+        (None, None) => true,
+        _ => false,
+    }
+}
+
+/// Whether the place of a way lies between two others, and the way is not the one that was asked for last.
+fn is_asked(alike: usize, end: usize, way: (usize, Way), last: Option<Way>) -> bool
+    ensures asked { IsTrue result → way.0 < end }
+    ensures passed { result ≡ false → IsPassed alike end last way }
+{
+    alike <= way.0 && way.0 < end && !is_repeated(way.1, last)
+}
+
 /// One of these ways for which the answer is the one that is looked for and whose place is in front of an end. It is not
-/// asked for at the places in front of another one, where there is none.
+/// asked for at the places in front of another one, where there is none, and once for ways one after the other that
+/// lead to the same frame with the same type.
 fn unlike_before<C: Classes>(
     alike: usize,
     end: usize,
@@ -208,10 +240,14 @@ fn unlike_before<C: Classes>(
     ensures same { frames.new ≡ frames.old }
     ensures found { IfOk result (FindsUnlike sought frames.old end ways.now) }
 {
+    let mut last = None;
     for i in 0..ways.len() {
         let way = ways[i];
-        if alike <= way.0 && way.0 < end && is_unlike(sought, way.1, frames)? {
-            return Ok(Some(way));
+        if is_asked(alike, end, way, last) {
+            if is_unlike(sought, way.1, frames)? {
+                return Ok(Some(way));
+            }
+            last = Some(way.1);
         }
     }
     Ok(None)

@@ -21,6 +21,7 @@ pub record Sorting (s : Numbering) (ds : List (ℕ × NumberedFrame)) (at : ℕ)
   pub named : (f : ℕ) → 0 < slice_index now.until.items f
       → IsNamed now.buckets.items f ⊎ ((k : ℕ) × (i ≤ k) × (slice_get now.moved.items k ≡ Some f))
   pub others : (f : ℕ) → at < slice_index old.until.items f → slice_index now.until.items f ≡ slice_index old.until.items f
+  pub fewer : (f : ℕ) → 0 < slice_index now.until.items f → 0 < slice_index old.until.items f
 
 module _ (s : Numbering) (ds : List (ℕ × NumberedFrame)) (at : ℕ) (old : Representatives) where
   -- the list of a bucket is taken out
@@ -36,6 +37,7 @@ module _ (s : Numbering) (ds : List (ℕ × NumberedFrame)) (at : ℕ) (old : Re
         within = λ k f e. (are.buckets place b here).within k f (sym (ap (λ xs. slice_get xs k) moved) ∙ e);
         named = λ f lt. kept f (are.named f (subst (λ u. 0 < slice_index u.items f) until lt));
         others = λ f lt. ap (λ u. slice_index u.items f) until;
+        fewer = λ f. subst (λ u. 0 < slice_index u.items f) until;
       }
     where
       by : (i : ℕ) (z : Bucket) → slice_get (set old.buckets.items place c) i ≡ Some z → IsBucket s ds (length old.until.items) z
@@ -69,6 +71,7 @@ module _ (s : Numbering) (ds : List (ℕ × NumberedFrame)) (at : ℕ) (old : Re
             ]
           ];
           others = λ f lt. ap (λ u. slice_index u.items f) until ∙ d.others f lt;
+          fewer = λ f lt. d.fewer f (subst (λ u. 0 < slice_index u.items f) until lt);
         }
 
     -- a frame has ended
@@ -83,6 +86,7 @@ module _ (s : Numbering) (ds : List (ℕ × NumberedFrame)) (at : ℕ) (old : Re
           within = λ k f e. d.within k f (sym (ap (λ m. slice_get m.items k) moved) ∙ e);
           named = λ f lt. by f lt (cases_eq f frame);
           others = λ f lt. kept f lt (cases_eq f frame);
+          fewer = λ f lt. stood f lt (cases_eq f frame);
         }
       where
         inside : frame < length was.until.items
@@ -98,6 +102,10 @@ module _ (s : Numbering) (ds : List (ℕ × NumberedFrame)) (at : ℕ) (old : Re
           ]
         ]
 
+        stood : (f : ℕ) → 0 < slice_index now.until.items f → (f ≡ frame) ⊎ (f ≢ frame) → 0 < slice_index old.until.items f
+        stood f lt (inl e) = absurd (let none = ap (λ xs. get_or xs f 0) until ∙ ap (λ k. get_or (set was.until.items frame 0) k 0) e ∙ get_or-set_same was.until.items frame 0 0 inside in omega (arith, lt, none))
+        stood f lt (inr ne) = d.fewer f (subst (λ k. 0 < k) (ap (λ xs. get_or xs f 0) until ∙ get_or-set_other was.until.items frame f 0 0 ne) lt)
+
         kept : (f : ℕ) → at < slice_index old.until.items f → (f ≡ frame) ⊎ (f ≢ frame) → slice_index now.until.items f ≡ slice_index old.until.items f
         kept f lt (inl e) = absurd (let same = d.others f lt in let low = subst (λ k. slice_index was.until.items k ≤ at) (sym e) ended in omega (arith, lt, same, low))
         kept f lt (inr ne) = ap (λ xs. get_or xs f 0) until ∙ get_or-set_other was.until.items frame f 0 0 ne ∙ d.others f lt
@@ -112,15 +120,17 @@ module _ (s : Numbering) (ds : List (ℕ × NumberedFrame)) (at : ℕ) (old : Re
         | inr later ↦ absurd (let within = slice_get_within now.moved.items later.0 f later.2 in let le = later.1 in omega (arith, within, le, all))
       ];
     };
+    fewer = d.fewer;
     others = d.others;
   }
 
   pub sorted_itself : AreRepresentatives s ds old → IsSorted s ds at old old
-  sorted_itself are = record { are = are; others = λ f lt. refl }
+  sorted_itself are = record { are = are; fewer = λ f lt. lt; others = λ f lt. refl }
 
   pub sorted_on : (mid new : Representatives) → IsSorted s ds at old mid → IsSorted s ds at mid new → IsSorted s ds at old new
   sorted_on mid new a b = record {
     are = b.are;
+    fewer = λ f lt. a.fewer f (b.fewer f lt);
     others = λ f lt.
         let same = a.others f lt in
         b.others f (omega (arith, lt, same)) ∙ same;

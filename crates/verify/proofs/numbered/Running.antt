@@ -53,6 +53,8 @@ follows_on old now r es at h k =
       later = k.later;
       settled = λ place one o. let so = k.settled place one o in record { stands = so.stands; comes = so.comes };
       representatives = k.representatives;
+      standing = k.standing;
+      caught = λ key one there. let c = k.caught key one there in record { even = c.even ∙ sym r.size; stack = c.stack };
     } in
     subst (λ (y : NumberedFrames). Follows y es at h) (sym r.others) before
 

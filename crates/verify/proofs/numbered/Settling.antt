@@ -25,7 +25,7 @@ use Rattle.verify.specs.declared.pass.handlers.Handler.{Handler}
 use Rattle.verify.specs.declared.pass.handlers.Handlers.{Handlers}
 use Rattle.verify.specs.declared.pass.representatives.Representatives.{Representatives}
 use Rattle.verify.specs.private.pass.Finding.{frame_in}
-use Rattle.verify.specs.private.pass.Following.{IsHandler, IsTaken, Comes, IsOpen, IsSettled, AreBegunTaken, Follows, AreAhead, kept_frame, one_handler_at}
+use Rattle.verify.specs.private.pass.Following.{IsHandler, IsTaken, Comes, IsOpen, IsSettled, TakesAll, AreStanding, AreCaught, AreBegunTaken, AreAllTaken, Follows, AreAhead, kept_frame, one_handler_at}
 use Rattle.verify.specs.private.pass.Buckets.{AreRepresentatives}
 use Rattle.verify.specs.private.pass.Representatives.{TakesLocal, TakesChanges}
 use Rattle.verify.proofs.numbered.Following.{none_if}
@@ -33,7 +33,7 @@ use Rattle.verify.proofs.numbered.Starting.{has_handler, covering_open, same_one
 
 -- ---- two answers that are yes
 
-both_right : (a b : Outcome) → both a b ≡ yes → b ≡ yes
+pub both_right : (a b : Outcome) → both a b ≡ yes → b ≡ yes
 both_right yes b e = e
 both_right no b e = cc
 both_right (missing name) yes e = refl
@@ -64,7 +64,7 @@ module _ (s : Numbering) where
       (locals_fit ls ks fs (omega (arith, long)) (both_right head tail was) (λ place lt. each (suc place) (omega (arith, lt))))
 
   -- the answer is yes for lists of one length alone
-  lists_long : (ls fs : List ℕ) → list_answer (type_answer s.classes) (types_by s ls) (types_by s fs) ≡ yes → length ls ≡ length fs
+  pub lists_long : (ls fs : List ℕ) → list_answer (type_answer s.classes) (types_by s ls) (types_by s fs) ≡ yes → length ls ≡ length fs
   lists_long [] [] e = refl
   lists_long [] (f ∷ fs) e = absurd (cc)
   lists_long (l ∷ ls) [] e = absurd (cc)
@@ -144,12 +144,27 @@ module _ (x : NumberedFrames) where
         changes_taken e one is h.flag own even (so.comes e is) (each one.lead (omega (arith, stands, lasts)))
 
     -- there are none where no frame stands for others
-    pub none_settled : h.representatives.buckets.items ≡ [] → AreBegunTaken x at h
-    none_settled none place one o e is =
-        let stands = (k.settled place one o).stands in
-        let lasts = o.lasts in
-        let n = k.representatives.named one.lead (omega (arith, stands, lasts)) in
-        absurd (let q : slice_get [] n.0 ≡ Some n.1.bucket = sym (ap (λ bs. slice_get bs n.0) none) ∙ n.1.there in cc)
+    none_named : h.representatives.buckets.items ≡ [] → (f : ℕ) → 0 < slice_index h.representatives.until.items f → ⊥
+    none_named none f lt =
+        let n = k.representatives.named f lt in
+        let q : slice_get [] n.0 ≡ Some n.1.bucket = sym (ap (λ bs. slice_get bs n.0) none) ∙ n.1.there in cc
+
+    pub none_settled : h.representatives.buckets.items ≡ [] → AreAllTaken x at h
+    none_settled none = record {
+      begun = λ place one o e is.
+          let stands = (k.settled place one o).stands in
+          let lasts = o.lasts in
+          absurd (none_named none one.lead (omega (arith, stands, lasts)));
+      standing = λ f lt. absurd (none_named none f lt);
+    }
+
+    -- frames that stand for others take the locals, if they take what changed
+    pub changes_standing : length x.running.locals ≡ length x.kept
+        → ((f : ℕ) → 0 < slice_index h.representatives.until.items f → TakesChanges x f (length x.running.locals)) → AreStanding x x.running.locals h
+    changes_standing even each f lt place less = elim (each f lt place less) [
+      | inl same ↦ subst (TakesLocal s ds f place) (sym same) (k.standing f lt place (omega (arith, less, even)))
+      | inr takes ↦ takes
+    ]
 
     -- all that cover the offset were compared, and come
     pub none_against_all : AreAhead at h → h.settled ≡ h.begun → AreBegunTaken x at h → least (handler_conditions s.classes (frames_by s ds) at (held x) es) ≡ None
@@ -171,7 +186,7 @@ module _ (x : NumberedFrames) where
 
   -- ---- the running frame is kept
 
-  pub kept_follows : (es : List ExceptionEntry) (at : ℕ) (h : Handlers) → Follows x es at h → AreBegunTaken x at h
+  pub kept_follows : (es : List ExceptionEntry) (at : ℕ) (h : Handlers) → Follows x es at h → AreAllTaken x at h
       → Follows (record x { kept = x.running.locals }) es at (record h { flag = x.running.flag })
   kept_follows es at h k taken = record {
     entries = k.entries;
@@ -185,9 +200,11 @@ module _ (x : NumberedFrames) where
         let was : IsOpen at h.settled h place one = record { early = o.early; here = o.here; lasts = o.lasts } in
         record {
           stands = (k.settled place one was).stands;
-          comes = λ e is. same_taken (held x) (kept_frame (record x { kept = x.running.locals }) x.running.flag) e refl refl (taken place one was e is);
+          comes = λ e is. same_taken (held x) (kept_frame (record x { kept = x.running.locals }) x.running.flag) e refl refl (taken.begun place one was e is);
         };
     representatives = k.representatives;
+    standing = taken.standing;
+    caught = λ key one there. let c = k.caught key one there in record { even = c.even; stack = c.stack };
   }
 
 -- ---- the tables are followed on
@@ -206,13 +223,32 @@ follows_later x es at later h le k = record {
   later = k.later;
   settled = λ place one o. k.settled place one (let lasts = o.lasts in record { early = o.early; here = o.here; lasts = omega (arith, lasts, le) });
   representatives = k.representatives;
+  standing = k.standing;
+  caught = k.caught;
 }
+
+-- more is remembered of entries
+pub follows_caught : (x : NumberedFrames) (es : List ExceptionEntry) (at : ℕ) (h now : Handlers) → now ≡ record h { caught = now.caught } → AreCaught x now → Follows x es at h → Follows x es at now
+follows_caught x es at h now is caught k = subst (Follows x es at) (sym is) (record {
+  entries = k.entries;
+  moved = k.moved;
+  rises = k.rises;
+  few = k.few;
+  within = k.within;
+  reached = record { started = k.reached.started; last = k.reached.last };
+  later = k.later;
+  settled = λ place one o. k.settled place one (record { early = o.early; here = o.here; lasts = o.lasts });
+  representatives = k.representatives;
+  standing = k.standing;
+  caught = caught;
+})
 
 -- others stand for frames
 pub follows_dropped : (x : NumberedFrames) (es : List ExceptionEntry) (at : ℕ) (h : Handlers) (rs : Representatives) → AreRepresentatives x.types x.declared rs
     → ((f : ℕ) → at < slice_index h.representatives.until.items f → slice_index rs.until.items f ≡ slice_index h.representatives.until.items f)
+    → ((f : ℕ) → 0 < slice_index rs.until.items f → 0 < slice_index h.representatives.until.items f)
     → Follows x es at h → Follows x es at (record h { representatives = rs })
-follows_dropped x es at h rs are same k = record {
+follows_dropped x es at h rs are same fewer k = record {
   entries = k.entries;
   moved = k.moved;
   rises = k.rises;
@@ -227,18 +263,23 @@ follows_dropped x es at h rs are same k = record {
       let is = same one.lead (omega (arith, stands, lasts)) in
       record { stands = omega (arith, stands, is); comes = so.comes };
   representatives = are;
+  standing = λ f lt. k.standing f (fewer f lt);
+  caught = k.caught;
 }
 
 -- more is known of the frames that stand for others
 module _ (x : NumberedFrames) (es : List ExceptionEntry) (at : ℕ) (h : Handlers) (rs : Representatives) (k : Follows x es at h) (until : rs.until ≡ h.representatives.until) where
   pub follows_learned : {R E : Type 0} (r : Result R E) → OnOk r (AreRepresentatives x.types x.declared rs) → OnOk r (Follows x es at (record h { representatives = rs }))
-  follows_learned (Ok v) are = follows_dropped x es at h rs are (λ f lt. ap (λ u. slice_index u.items f) until) k
+  follows_learned (Ok v) are = follows_dropped x es at h rs are (λ f lt. ap (λ u. slice_index u.items f) until) (λ f. subst (λ u. 0 < slice_index u.items f) until) k
   follows_learned (Err e) are = tt
 
   pub taken_learned : {E : Type 0} (r : Result Bool E) → x.running.flag ≡ h.flag → length x.running.locals ≡ length x.kept
       → IfOk r (λ all. IsTrue all → (f : ℕ) → 0 < slice_index h.representatives.until.items f → TakesChanges x f (length x.running.locals))
-      → IfOk r (λ all. IsTrue all → AreBegunTaken x at (record h { representatives = rs }))
-  taken_learned (Ok all) own even takes = λ t place one o. changes_settled x es at h k own even (takes t) place one (record { early = o.early; here = o.here; lasts = o.lasts })
+      → IfOk r (λ all. IsTrue all → AreAllTaken x at (record h { representatives = rs }))
+  taken_learned (Ok all) own even takes = λ t. record {
+    begun = λ place one o. changes_settled x es at h k own even (takes t) place one (record { early = o.early; here = o.here; lasts = o.lasts });
+    standing = λ f lt. changes_standing x es at h k even (takes t) f (subst (λ u. 0 < slice_index u.items f) until lt);
+  }
   taken_learned (Err e) own even takes = tt
 
 -- an entry was compared, and a frame stands for that of its handler
@@ -251,8 +292,9 @@ settled_one x h one other rs is there stands comes =
 pub follows_settled : (x : NumberedFrames) (es : List ExceptionEntry) (at : ℕ) (h : Handlers) (rs : Representatives) (n : ℕ) → n ≡ h.settled + 1 → h.settled < h.begun → AreRepresentatives x.types x.declared rs
     → ((f : ℕ) → slice_index h.representatives.until.items f ≤ slice_index rs.until.items f)
     → ((one : Handler) → slice_get h.by_start.items h.settled ≡ Some one → at < one.to → IsSettled x h.flag rs.until.items one)
+    → ((f : ℕ) → 0 < slice_index rs.until.items f → TakesAll x x.kept f)
     → Follows x es at h → Follows x es at (record h { representatives = rs; settled = n })
-follows_settled x es at h rs n more lt are grows here k = record {
+follows_settled x es at h rs n more lt are grows here standing k = record {
   entries = k.entries;
   moved = k.moved;
   rises = k.rises;
@@ -262,6 +304,8 @@ follows_settled x es at h rs n more lt are grows here k = record {
   later = k.later;
   settled = λ place one o. by place one o (cases_lt place h.settled);
   representatives = are;
+  standing = standing;
+  caught = k.caught;
 }
   where
     by : (place : ℕ) (one : Handler) → IsOpen at n (record h { representatives = rs; settled = n }) place one → (place < h.settled) ⊎ (h.settled ≤ place) → IsSettled x h.flag rs.until.items one
@@ -286,11 +330,6 @@ none_covered x (e ∷ es) at f none =
     neither : (a b : Bool) → (a || b) ≡ false → (a ≡ false) × (b ≡ false)
     neither false b e = (refl, e)
     neither true b e = absurd (cc)
-
-pub two_true : (a b : Bool) → (a && b) ≡ true → (a ≡ true) × (b ≡ true)
-two_true true true e = (refl, refl)
-two_true true false e = absurd (cc)
-two_true false b e = absurd (cc)
 
 pub same_flag : (a b : Bool) → beq a b ≡ true → a ≡ b
 same_flag true true e = refl

@@ -1,6 +1,7 @@
 -- The entries of an exception table in the order in which their ranges begin.
 use Rattle.std.proofs.Common.{◌≡◌, ◌⊎◌, ◌∙◌, ℕ, zero, suc, ◌+◌, ◌≤◌, ◌<◌, Bool, true, false, List, [], ◌∷◌, get_or, slice_get, Some, refl, sym, ap, subst, inl, inr, arith}
-use Rattle.std.specs.Prelude.{max}
+use Rattle.std.specs.Prelude.{max, slice_index}
+use Rattle.std.specs.BTreeMap.{IsEmpty}
 use Rattle.std.specs.List.Sorted.{IsPermutation, IsNonDecreasingBy}
 use Rattle.std.proofs.lemmas.Bool.{cases_lt}
 use Rattle.std.proofs.lemmas.Option.{slice_get_within, get_or_from_slice_get, slice_get-get_or}
@@ -12,9 +13,10 @@ use Rattle.verify.specs.Verdict.{is_covered}
 use Rattle.verify.specs.declared.pass.handlers.Handler.{Handler}
 use Rattle.verify.specs.declared.pass.handlers.Handlers.{Handlers}
 use Rattle.verify.specs.private.pass.Buckets.{AreRepresentatives}
-use Rattle.verify.specs.private.pass.Following.{IsHandler, AreHandlers, IsOpen, Follows, AreAhead, AreFrom}
+use Rattle.verify.specs.private.pass.Following.{IsHandler, AreHandlers, IsOpen, Catches, Follows, AreAhead, AreFrom}
 use Rattle.verify.proofs.numbered.Following.{has_entry, covered_by, covered_by_none, begun_covers, covered_starts, covered_ends}
 use Rattle.verify.proofs.numbered.Listed.{some_same}
+use Rattle.verify.proofs.numbered.Watched.{empty_all}
 
 -- ---- an entry and its handler
 
@@ -53,8 +55,9 @@ greater_of a b c is = elim (cases_lt a b) [
 
 -- before the first instruction
 pub follows_first : (x : NumberedFrames) (es : List ExceptionEntry) (h : Handlers) → AreHandlers x.types x.declared es h.table.items → IsPermutation h.table.items h.by_start.items
-    → IsNonDecreasingBy (λ (one : Handler). one.from) h.by_start.items → h.begun ≡ 0 → h.settled ≡ 0 → h.reach ≡ 0 → h.next_start ≡ 0 → AreRepresentatives x.types x.declared h.representatives → Follows x es 0 h
-follows_first x es h a moved rises begun settled reach next are = record {
+    → IsNonDecreasingBy (λ (one : Handler). one.from) h.by_start.items → h.begun ≡ 0 → h.settled ≡ 0 → h.reach ≡ 0 → h.next_start ≡ 0 → AreRepresentatives x.types x.declared h.representatives
+    → h.representatives.until.items ≡ [] → IsEmpty h.caught → Follows x es 0 h
+follows_first x es h a moved rises begun settled reach next are none empty = record {
   entries = a;
   moved = moved;
   rises = rises;
@@ -64,6 +67,8 @@ follows_first x es h a moved rises begun settled reach next are = record {
   later = λ place one behind here. omega (arith, next);
   settled = λ place one o. absurd (let early = o.early in omega (arith, early, settled));
   representatives = are;
+  standing = λ f lt. absurd (let stops = ap (λ us. slice_index us f) none in omega (arith, lt, stops));
+  caught = empty_all (λ key one. Catches x one) h.caught empty;
 }
 
 -- ---- both orders have the entries
@@ -158,6 +163,8 @@ module _ (x : NumberedFrames) (es : List ExceptionEntry) (at : ℕ) (h : Handler
     later = λ place other behind there. k.later place other (omega (arith, behind, more)) there;
     settled = λ place other o. k.settled place other (record { early = o.early; here = o.here; lasts = o.lasts });
     representatives = k.representatives;
+    standing = k.standing;
+    caught = k.caught;
   }
 
   -- where the next one begins
@@ -172,6 +179,8 @@ module _ (x : NumberedFrames) (es : List ExceptionEntry) (at : ℕ) (h : Handler
     later = from;
     settled = λ place other o. k.settled place other (record { early = o.early; here = o.here; lasts = o.lasts });
     representatives = k.representatives;
+    standing = k.standing;
+    caught = k.caught;
   }
 
   -- the offset lies before it

@@ -86,17 +86,6 @@ has_on ns ms n on h = (h.0, on h.0 n h.1)
 pub has_pushed : (ns ms : List ℕ) (n : ℕ) → ms ≡ ns ++ n ∷ [] → Has ms n
 has_pushed ns ms n is = (length ns, ap (λ xs. slice_get xs (length ns)) is ∙ pushed_last ns n)
 
-either : (a b : Bool) → (a || b) ≡ true → (a ≡ true) ⊎ (b ≡ true)
-either true b e = inl refl
-either false b e = inr e
-
-pub has_found : (ns : List ℕ) (n : ℕ) → list_any (λ m. nat_eq m n) ns ≡ true → Has ns n
-has_found [] n e = absurd (cc)
-has_found (m ∷ ns) n e = elim (either (nat_eq m n) (list_any (λ m. nat_eq m n) ns) e) [
-  | inl here ↦ (0, ap (λ k. Some k) (eqb-true m n here))
-  | inr there ↦ (let h = has_found ns n there in (suc h.0, h.1))
-]
-
 -- ---- what is wanted
 
 module _ (s : Numbering) where
@@ -115,13 +104,6 @@ module _ (s : Numbering) where
   -- the list goes on
   pub fit_on : (number c : ℕ) (ns ms : List ℕ) → GoesOn ns ms → c ≤ length ns → FitUpTo s number c ns → FitUpTo s number c ms
   fit_on number c ns ms on le fit k n lt e = fit k n lt (goes_back ns ms on k n (omega (arith, lt, le)) e)
-
-  pub none_fitting : (w : Wanted) → w.numbers.items ≡ [] → IsEmpty w.fitting → AreFitting s w
-  none_fitting w none empty = record {
-    given = λ k n e. absurd (let f : slice_get [] k ≡ Some n = sym (ap (λ xs. slice_get xs k) none) ∙ e in cc);
-    few = empty_all (λ number count. count ≤ length w.numbers.items) w.fitting empty;
-    fit = empty_all (λ number count. FitUpTo s number count w.numbers.items) w.fitting empty;
-  }
 
   pub fitting_pushed : (old new : Wanted) (n : ℕ) → IsGiven s n → new.numbers.items ≡ old.numbers.items ++ n ∷ [] → new.fitting ≡ old.fitting → AreFitting s old → AreFitting s new
   fitting_pushed old new n given is same are =
@@ -239,24 +221,31 @@ module _ (s : Numbering) where
           locals = λ place w e. wanted_on old.frames.items new.frames.items place w on (is.locals place w (sym (ap (λ z. get nat_cmp z place) same) ∙ e));
         }
 
-    -- the frames of a list take a type, if it may stand for all that is wanted
-    pub group_takes : (list : List ℕ) (place number : ℕ) (g : Group) (w : Wanted) → IsGroup s ds list (place / 256) g → g.seen ≡ length list
-        → IsWanted s ds g.frames.items place w → w.seen ≡ length g.frames.items → FitUpTo s number (length w.numbers.items) w.numbers.items
+    -- the frames of a list take a type, if those do that have their local variables
+    pub alike_take : (list : List ℕ) (place number : ℕ) (g : Group) → IsGroup s ds list (place / 256) g → g.seen ≡ length list
+        → ((k f : ℕ) → slice_get g.frames.items k ≡ Some f → TakesLocal s ds f place number)
         → (k f : ℕ) → slice_get list k ≡ Some f → TakesLocal s ds f place number
-    group_takes list place number g w is all wants every fit k f e =
+    alike_take list place number g is all each k f e =
         let within = slice_get_within list k f e in
         let like = is.each k f (omega (arith, within, all)) e in
-        let there = slice_get_within g.frames.items like.place like.one like.here in
-        let has = wants.each like.place like.one (omega (arith, there, every)) like.here in
-        let inside = slice_get_within w.numbers.items has.0 (local_in ds like.one place) has.1 in
         subst (λ z. type_answer s.classes (type_by s number) (type_by s z) ≡ yes) (sym (like.equal place (low place) (high place)))
-        (fit has.0 (local_in ds like.one place) inside has.1)
+        (each like.place like.one like.here)
       where
         low : (p : ℕ) → p / 256 * 256 ≤ p
         low p = omega arith
 
         high : (p : ℕ) → p < p / 256 * 256 + 256
         high p = omega arith
+
+    -- or if it may stand for all that is wanted
+    pub group_takes : (list : List ℕ) (place number : ℕ) (g : Group) (w : Wanted) → IsGroup s ds list (place / 256) g → g.seen ≡ length list
+        → IsWanted s ds g.frames.items place w → w.seen ≡ length g.frames.items → FitUpTo s number (length w.numbers.items) w.numbers.items
+        → (k f : ℕ) → slice_get list k ≡ Some f → TakesLocal s ds f place number
+    group_takes list place number g w is all wants every fit =
+        alike_take list place number g is all (λ k f here.
+        let there = slice_get_within g.frames.items k f here in
+        let has = wants.each k f (omega (arith, there, every)) here in
+        fit has.0 (local_in ds f place) (slice_get_within w.numbers.items has.0 (local_in ds f place) has.1) has.1)
 
     pub watch_on : (list more : List ℕ) (w : Watch) → GoesOn list more → IsWatch s ds list w → IsWatch s ds more w
     watch_on list more w on is at g e = group_on list more at g on (is at g e)

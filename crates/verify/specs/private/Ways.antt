@@ -1,5 +1,5 @@
 -- Declared frames to which the running one leads, as it is or with what is caught alone on its stack.
-use Rattle.std.specs.Prelude.{◌≡◌, ◌≢◌, ◌<◌, ℕ, suc, List, [], ◌∷◌, All, Contains, length, Option, Some, None, option_map, IfSome}
+use Rattle.std.specs.Prelude.{◌≡◌, ◌≢◌, ◌⊎◌, ◌≤◌, ◌<◌, ℕ, suc, List, [], ◌∷◌, All, Contains, length, Option, Some, None, option_map, IfSome}
 use Rattle.std.specs.Option.{option_or}
 use Rattle.frames.specs.FrameFact.{FrameFact}
 use Rattle.frames.specs.declared.difference.Sought.{Sought}
@@ -55,6 +55,10 @@ IsUnlike sought x w = way_difference sought x w ≢ None
 
 abbrev pub IsAlikeBefore : Sought → NumberedFrames → ℕ → ℕ × Way → Type 0
 IsAlikeBefore sought x end w = w.0 < end → way_difference sought x w.1 ≡ None
+
+-- a way that is not in front of the end, or is in front of the others, or is the one that was asked for last
+abbrev pub IsPassed : ℕ → ℕ → Option Way → ℕ × Way → Type 0
+IsPassed alike end last w = (w.0 < alike) ⊎ ((end ≤ w.0) ⊎ (last ≡ Some w.1))
 
 -- on one of these ways in front of a place there is one, or there is none on each
 abbrev pub FindsUnlike : Sought → NumberedFrames → ℕ → List (ℕ × Way) → Option (ℕ × Way) → Type 0

@@ -1,15 +1,15 @@
 //! The exception handlers of a method, while a pass goes over its code (JVMS 4.10.1.6).
-ghost use Rattle.std.specs.Prelude.{◌≡◌, ◌≤◌, ℕ, None, Some, List, All, slice_get, IsTrue, IfOk, OnOk, MatchOption};
+ghost use Rattle.std.specs.Prelude.{◌≡◌, ◌≤◌, ℕ, true, false, None, Some, List, All, slice_get, IsTrue, IfOk, OnOk, MatchOption};
 ghost use Rattle.std.specs.List.{list_any};
 ghost use Rattle.classfile.specs.Methods.{ExceptionEntry};
-ghost use Rattle.frames.specs.Conditions.{least};
+ghost use Rattle.frames.specs.Conditions.{is_no, least};
 ghost use Rattle.method_frames.specs.NumberedFrames.{NumberedFrames};
 ghost use Rattle.method_frames.specs.MapFrames.{frames_by};
 ghost use Rattle.numbered_rules.specs.RunningFrame.{held};
 ghost use Rattle.rules.specs.Outcomes.{Judges};
-ghost use Rattle.verify.specs.Verdict.{handler_conditions, is_covered};
+ghost use Rattle.verify.specs.Verdict.{answer_conditions, handler_conditions, is_covered};
 ghost use Rattle.verify.specs.private.InTurn.{IsJudgedInTurn};
-ghost use Rattle.verify.specs.private.pass.Following.{IsHandler, AreHandlers, IsTaken, IsUnchanged, IsOfEntry, AreBegunTaken, Follows, AreAhead, AreFrom, one_handler_at, is_covering, refuses};
+ghost use Rattle.verify.specs.private.pass.Following.{IsHandler, AreHandlers, IsTaken, IsUnchanged, IsOfEntry, IsLike, IsPassed, Comes, AreAllTaken, Catches, AreCaught, IsCaught, IsKnown, Follows, AreAhead, AreFrom, handler_answer, one_handler_at, is_covering, refuses};
 
 use crate::flow::check_answer;
 use crate::pass::representatives::Representatives;
@@ -17,6 +17,10 @@ use hierarchy::{Answer, Classes};
 use method_frames::MethodFrames;
 use rules::Reason;
 use std::alloc::{AllocError, Global};
+use std::collections::BTreeMap;
+
+/// For a table of at most so many entries it is not remembered what their handlers' frames take.
+const FEW_ENTRIES: usize = 64;
 
 /// An entry of an exception table (JVMS 4.7.3).
 #[derive(Clone, Copy, Debug)]
@@ -40,42 +44,53 @@ fn covers(at: u16, handler: &Handler) -> bool
     handler.from <= at && at < handler.to
 }
 
-/// The frame before an instruction, with what an entry catches alone on its stack, comes to the handler, if the entry
-/// covers the instruction: 73 and 77 by their comparison.
+/// Whether an entry has the frame of another one, if there is one, and catches the same type.
+fn is_like(handler: &Handler, last: &Option<Handler>) -> bool
+    ensures { IsTrue result → IsLike handler.now last.now }
+{
+    match last {
+        Some(last) => handler.frame == last.frame && handler.caught == last.caught,
+        None => false,
+    }
+}
+
+/// Whether an entry covers an instruction, and is not like the one that was asked last.
+fn is_asked(at: u16, handler: &Handler, last: &Option<Handler>) -> bool
+    ensures asked { IsTrue result → is_covering handler.now at ≡ true }
+    ensures passed { result ≡ false → IsPassed at last.now handler.now }
+{
+    covers(at, handler) && !is_like(handler, last)
+}
+
+/// The frame before an instruction that an entry covers, with what the entry catches alone on its stack, comes to the
+/// handler: 73 and 77 by their comparison.
 fn check_handler<'n, C: Classes>(
-    at: u16,
     handler: &Handler,
     frames: &mut MethodFrames<'_, '_, 'n, C>,
 ) -> Result<(), Reason<'n>>
-    requires { (e : ExceptionEntry) × IsHandler frames.old.types frames.old.declared e handler.now }
+    requires { IsOfEntry frames.old handler.now }
     ensures same { frames.new ≡ frames.old }
-    ensures judged { let x = frames.old in (e : ExceptionEntry) → IsHandler x.types x.declared e handler.now
-        → Judges (one_handler_at x.types.classes (frames_by x.types x.declared) at (held x) e) result }
+    ensures judged { Judges (answer_conditions 73 (handler_answer frames.old handler.now)) result }
 {
-    if !covers(at, handler) {
-        return Ok(());
-    }
     let answer = frames.answer_caught(handler.frame, handler.caught);
     check_answer(answer, Reason::HandlerNotAssignable)
 }
 
-/// Whether an entry covers an instruction, and the frame before that may not stand at the handler, with what the entry
+/// Whether the frame before an instruction that an entry covers may not stand at the handler, with what the entry
 /// catches alone on its stack: whatever classes there are.
-fn refuses<C: Classes>(at: u16, handler: &Handler, frames: &mut MethodFrames<'_, '_, '_, C>) -> bool
+fn is_refused<C: Classes>(handler: &Handler, frames: &mut MethodFrames<'_, '_, '_, C>) -> bool
     requires { IsOfEntry frames.old handler.now }
     ensures same { frames.new ≡ frames.old }
-    ensures refused { result ≡ refuses frames.old at handler.now }
+    ensures refused { result ≡ is_no (handler_answer frames.old handler.now) }
 {
-    if !covers(at, handler) {
-        return false;
-    }
     matches!(
         frames.answer_caught(handler.frame, handler.caught),
         Answer::No
     )
 }
 
-/// Whether one of these entries refuses an instruction.
+/// Whether one of these entries refuses an instruction. Entries one after the other that have the same frame and catch
+/// the same type are asked once.
 fn any_refuses<C: Classes>(
     at: u16,
     handlers: &[Handler],
@@ -85,16 +100,22 @@ fn any_refuses<C: Classes>(
     ensures same { frames.new ≡ frames.old }
     ensures refused { result ≡ list_any (refuses frames.old at) handlers.now }
 {
+    let mut last = None;
     for i in 0..handlers.len() {
-        if refuses(at, &handlers[i], frames) {
-            return true;
+        let handler = handlers[i];
+        if is_asked(at, &handler, &last) {
+            if is_refused(&handler, frames) {
+                return true;
+            }
+            last = Some(handler);
         }
     }
     false
 }
 
 /// The frame before an instruction comes to the handler of each entry that covers the instruction, up to the first one
-/// to whose handler it does not.
+/// to whose handler it does not. Entries one after the other that have the same frame and catch the same type are asked
+/// once.
 fn check_in_turn<'n, C: Classes>(
     at: u16,
     table: &[Handler],
@@ -107,8 +128,13 @@ fn check_in_turn<'n, C: Classes>(
         → IsJudgedInTurn (one_handler_at x.types.classes fs at (held x))
         (handler_conditions x.types.classes fs at (held x)) es result }
 {
+    let mut last = None;
     for i in 0..table.len() {
-        check_handler(at, &table[i], frames)?;
+        let handler = table[i];
+        if is_asked(at, &handler, &last) {
+            check_handler(&handler, frames)?;
+            last = Some(handler);
+        }
     }
     Ok(())
 }
@@ -129,6 +155,7 @@ fn check_handlers<'n, C: Classes>(
         → Judges (handler_conditions x.types.classes (frames_by x.types x.declared) at (held x) es) result }
 {
     let mut by_frame = copied(alloc, table)?;
+    by_frame.sort_by_key(|handler| handler.caught)?;
     by_frame.sort_by_key(|handler| handler.frame)?;
     if any_refuses(at, &by_frame, frames) {
         return Err(Reason::HandlerNotAssignable);
@@ -167,6 +194,11 @@ fn copied(alloc: Global, table: &[Handler]) -> Result<Vec<Handler>, AllocError>
     Ok(copy)
 }
 
+/// The key of the frame and the type of an entry.
+fn key_of(handler: &Handler) -> u64 {
+    (handler.frame % 0x1_0000_0000) as u64 * 0x1_0000_0000 + u64::from(handler.caught)
+}
+
 /// The entries of an exception table. At an instruction, the frame is compared with the handlers of those that begin to
 /// cover it; with the others only by the local variables that changed, and once for all whose frames have the same
 /// locals.
@@ -190,6 +222,9 @@ pub struct Handlers {
     flag: bool,
     // For the frames at the handlers of the entries that were compared, as long as these cover instructions.
     representatives: Representatives,
+    // By frame and type, an entry to whose handler a frame came. It has at most one for each entry of a table of more
+    // than [`FEW_ENTRIES`], and is dropped with the table.
+    caught: BTreeMap<u64, Handler>,
 }
 
 impl Handlers {
@@ -213,6 +248,7 @@ impl Handlers {
             next_start: 0,
             flag: false,
             representatives: Representatives::new(alloc),
+            caught: BTreeMap::new(alloc),
         })
     }
 
@@ -310,7 +346,7 @@ impl Handlers {
             → OnOk result (Follows x es at self.new) }
         ensures ahead { (at : ℕ) → AreAhead at self.old → AreAhead at self.new }
         ensures taken { let x = frames.old in (es : List ExceptionEntry) (at : ℕ) → Follows x es at self.old
-            → IfOk result (λ taken. IsTrue taken → AreBegunTaken x at self.new) }
+            → IfOk result (λ taken. IsTrue taken → AreAllTaken x at self.new) }
     {
         if self.representatives.is_empty() {
             return Ok(true);
@@ -334,7 +370,7 @@ impl Handlers {
             → OnOk result (Follows x es at self.new) }
         ensures ahead { AreAhead at self.old → AreAhead at self.new }
         ensures taken { let x = frames.old in (es : List ExceptionEntry) → Follows x es at self.old
-            → IfOk result (λ taken. IsTrue taken → AreBegunTaken x at self.new) }
+            → IfOk result (λ taken. IsTrue taken → AreAllTaken x at self.new) }
     {
         if self.take_changes(frames)? {
             return Ok(true);
@@ -348,11 +384,69 @@ impl Handlers {
         ensures rest { frames.new ≡ record frames.old { kept = frames.old.running.locals } }
         ensures ahead { AreAhead at self.old → AreAhead at self.new }
         ensures followed { (es : List ExceptionEntry) → Follows frames.old es at self.old
-            → AreBegunTaken frames.old at self.old → Follows frames.new es at self.new }
+            → AreAllTaken frames.old at self.old → Follows frames.new es at self.new }
         ensures flag { self.new.flag ≡ frames.new.running.flag }
     {
         frames.keep_locals();
         self.flag = frames.flag();
+    }
+
+    /// Whether it is remembered that a frame came to the handler of an entry with this frame and this type.
+    fn catches(&self, handler: &Handler) -> bool
+        ensures { IsTrue result → IsCaught self.now handler.now }
+    {
+        match self.caught.get(&key_of(handler)) {
+            Some(one) => one.frame == handler.frame && one.caught == handler.caught,
+            None => false,
+        }
+    }
+
+    /// Whether it is known that the frame, which was kept, comes to the handler of an entry: one that stands for the
+    /// handler's frame takes its locals, and what is caught was compared before.
+    fn is_known(&self, handler: &Handler) -> bool
+        ensures { IsTrue result → IsKnown self.now handler.now }
+    {
+        self.table.len() > FEW_ENTRIES
+            && !self.flag
+            && self.representatives.stands(handler.lead)
+            && self.catches(handler)
+    }
+
+    /// Remembers that the frame comes to the handler of an entry.
+    fn learn(&mut self, handler: &Handler) -> Result<(), AllocError>
+        ensures rest { self.new ≡ record self.old { caught = self.new.caught } }
+        ensures caught { (x : NumberedFrames) → Catches x handler.now → AreCaught x self.old
+            → OnOk result (AreCaught x self.new) }
+    {
+        if self.table.len() > FEW_ENTRIES {
+            self.caught.insert(key_of(handler), *handler)?;
+        }
+        Ok(())
+    }
+
+    /// Whether the frame, which was kept, comes to the handler of an entry.
+    fn takes<C: Classes>(
+        &mut self,
+        handler: &Handler,
+        frames: &mut MethodFrames<'_, '_, '_, C>,
+    ) -> Result<bool, AllocError>
+        requires follows { (es : List ExceptionEntry) × (at : ℕ) × Follows frames.old es at self.old }
+        requires entry { IsOfEntry frames.old handler.now }
+        requires kept { frames.old.kept ≡ frames.old.running.locals }
+        requires flag { self.old.flag ≡ frames.old.running.flag }
+        ensures same { frames.new ≡ frames.old }
+        ensures rest { self.new ≡ record self.old { caught = self.new.caught } }
+        ensures caught { OnOk result (AreCaught frames.old self.new) }
+        ensures taken { IfOk result (λ taken. IsTrue taken → Comes frames.old (held frames.old) handler.now) }
+    {
+        if self.is_known(handler) {
+            return Ok(true);
+        }
+        if !comes(handler, frames) {
+            return Ok(false);
+        }
+        self.learn(handler)?;
+        Ok(true)
     }
 
     /// Compares the entries that have begun and were not compared, up to one to whose handler the frame does not come.
@@ -374,7 +468,7 @@ impl Handlers {
         while self.settled < self.begun {
             let handler = self.by_start[self.settled];
             if at < handler.to {
-                if !comes(&handler, frames) {
+                if !self.takes(&handler, frames)? {
                     return Ok(false);
                 }
                 self.representatives

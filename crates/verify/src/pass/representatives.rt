@@ -1,17 +1,14 @@
 //! Declared frames that stand for others, since they have the same locals (JVMS 4.10.1.6).
-ghost use Rattle.std.specs.Prelude.{◌≡◌, ◌≤◌, ◌<◌, ◌++◌, ◌∷◌, ◌^◌, ℕ, [], List, length, slice_get, slice_index, Some, IsTrue, IfOk, IfSome, OnOk};
+ghost use Rattle.std.specs.Prelude.{◌≡◌, ◌≢◌, ◌≤◌, ◌<◌, ◌++◌, ◌∷◌, ◌^◌, ℕ, [], List, length, slice_get, slice_index, Some, IsTrue, IfOk, IfSome, OnOk};
 ghost use Rattle.method_frames.specs.NumberedFrames.{NumberedFrame};
 ghost use Rattle.type_numbers.specs.Numbers.{Numbering, IsGiven};
 ghost use Rattle.verify.specs.private.pass.Representatives.{TakesLocal, TakesChanges};
 ghost use Rattle.verify.specs.private.pass.Buckets.{IsBucket, AreBuckets, IsIn, IsNamed, AreRepresentatives, IsPut, IsSorted};
 
-use crate::pass::watching::Watch;
+use crate::pass::watching::{FEW_FRAMES, Watch, each_takes};
 use hierarchy::Classes;
 use method_frames::MethodFrames;
 use std::alloc::{AllocError, Global};
-
-/// So many frames are asked one by one.
-const FEW_FRAMES: usize = 8;
 
 /// Where more local variables changed than these, and one more for every 16 frames, each frame is compared as a whole.
 const FEW_CHANGES: usize = 4;
@@ -62,26 +59,6 @@ impl Bucket {
         Ok(())
     }
 
-    /// Whether each frame takes a type as this local variable, one after another.
-    fn each_takes<C: Classes>(
-        &self,
-        place: usize,
-        number: u32,
-        frames: &MethodFrames<'_, '_, '_, C>,
-    ) -> bool
-        requires given { IsGiven frames.now.types number }
-        requires bucket { (room : ℕ) × IsBucket frames.now.types frames.now.declared room self.now }
-        ensures { IsTrue result → (k f : ℕ) → slice_get self.now.list.items k ≡ Some f
-            → TakesLocal frames.now.types frames.now.declared f place number }
-    {
-        for i in 0..self.list.len() {
-            if !frames.takes(self.list[i], place, number) {
-                return false;
-            }
-        }
-        true
-    }
-
     /// Whether each frame takes a type as this local variable.
     fn all_take<C: Classes>(
         &mut self,
@@ -99,7 +76,7 @@ impl Bucket {
             → TakesLocal frames.now.types frames.now.declared f place number) }
     {
         if self.list.len() <= FEW_FRAMES {
-            return Ok(self.each_takes(place, number, frames));
+            return Ok(each_takes(&self.list, place, number, frames));
         }
         self.watch.all_take(&self.list, place, number, frames)
     }
@@ -155,7 +132,8 @@ pub struct Representatives {
 impl Representatives {
     /// None yet.
     pub fn new(alloc: Global) -> Representatives
-        ensures { (s : Numbering) (ds : List (ℕ × NumberedFrame)) → AreRepresentatives s ds result }
+        ensures are { (s : Numbering) (ds : List (ℕ × NumberedFrame)) → AreRepresentatives s ds result }
+        ensures none { result.until.items ≡ [] }
     {
         Representatives {
             alloc,
@@ -221,8 +199,10 @@ impl Representatives {
         requires representatives { AreRepresentatives frames.now.types frames.now.declared self.old }
         ensures representatives { OnOk result (AreRepresentatives frames.now.types frames.now.declared self.new) }
         ensures added { OnOk result (to ≤ slice_index self.new.until.items frame) }
-        ensures others { OnOk result ((f : ℕ)
+        ensures more { OnOk result ((f : ℕ)
             → slice_index self.old.until.items f ≤ slice_index self.new.until.items f) }
+        ensures others { OnOk result ((f : ℕ) → f ≢ frame
+            → slice_index self.new.until.items f ≡ slice_index self.old.until.items f) }
     {
         reach(frames.count(), &mut self.until)?;
         let until = self.until[frame];
@@ -231,6 +211,14 @@ impl Representatives {
         }
         self.until[frame] = until.max(to);
         Ok(())
+    }
+
+    /// Whether a declared frame stands for others.
+    pub fn stands(&self, frame: usize) -> bool
+        ensures { IsTrue result → 0 < slice_index self.now.until.items frame }
+    {
+        let until = self.until.get(frame).copied().unwrap_or(0);
+        until > 0
     }
 
     /// Whether the frame of each takes a type as this local variable.

@@ -14,6 +14,29 @@ use std::collections::BTreeMap;
 /// How many local variables a group has.
 const GROUP: usize = 256;
 
+/// So many frames are asked one by one.
+pub const FEW_FRAMES: usize = 8;
+
+/// Whether each frame of a list takes a type as a local variable, one after another.
+pub fn each_takes<C: Classes>(
+    list: &[usize],
+    place: usize,
+    number: u32,
+    frames: &MethodFrames<'_, '_, '_, C>,
+) -> bool
+    requires given { IsGiven frames.now.types number }
+    requires list { AreDeclared frames.now.declared list.now }
+    ensures { IsTrue result → (k f : ℕ) → slice_get list.now k ≡ Some f
+        → TakesLocal frames.now.types frames.now.declared f place number }
+{
+    for i in 0..list.len() {
+        if !frames.takes(list[i], place, number) {
+            return false;
+        }
+    }
+    true
+}
+
 /// The numbers that frames want of one local variable.
 #[derive(Drop)]
 pub struct Wanted {
@@ -21,6 +44,8 @@ pub struct Wanted {
     seen: usize,
     // The numbers that those want, each once.
     numbers: Vec<u32>,
+    // By each of these, its place among them.
+    places: BTreeMap<u32, usize>,
     // By the number of a type, with how many of the first ones it was compared: it may stand for these.
     fitting: BTreeMap<u32, usize>,
 }
@@ -34,8 +59,19 @@ impl Wanted {
         Wanted {
             seen: 0,
             numbers: Vec::new(alloc),
+            places: BTreeMap::new(alloc),
             fitting: BTreeMap::new(alloc),
         }
+    }
+
+    /// Whether it is known that a number is wanted.
+    fn has(&self, number: u32) -> bool
+        ensures { IsTrue result → Has self.now.numbers.items number }
+    {
+        let Some(place) = self.places.get(&number).copied() else {
+            return false;
+        };
+        place < self.numbers.len() && self.numbers[place] == number
     }
 
     /// A number is wanted.
@@ -46,9 +82,11 @@ impl Wanted {
         ensures more { OnOk result (GoesOn self.old.numbers.items self.new.numbers.items) }
         ensures wanted { OnOk result (Has self.new.numbers.items number) }
     {
-        if !self.numbers.contains(&number) {
-            self.numbers.push(number)?;
+        if self.has(number) {
+            return Ok(());
         }
+        self.places.insert(number, self.numbers.len())?;
+        self.numbers.push(number)?;
         Ok(())
     }
 
@@ -120,7 +158,7 @@ impl Wanted {
     }
 }
 
-/// Tells which numbers the frames of a list want of a group of local variables.
+/// Tells which numbers the frames of a list want of a group of local variables. Of a few frames none are listed.
 #[derive(Drop)]
 pub struct Group {
     alloc: Global,
@@ -218,6 +256,9 @@ impl Group {
             → self.old.seen ≡ length list → IfOk result (λ all. IsTrue all → (k f : ℕ) → slice_get list k ≡ Some f
             → TakesLocal x.types x.declared f place number) }
     {
+        if self.frames.len() <= FEW_FRAMES {
+            return Ok(each_takes(&self.frames, place, number, frames));
+        }
         let mut wanted = self.take_out(place);
         wanted.see(&self.frames, place, frames)?;
         let all = wanted.all_fit(number, frames)?;

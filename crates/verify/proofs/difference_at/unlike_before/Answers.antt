@@ -1,12 +1,20 @@
-use Rattle.std.proofs.Common.{◌∙◌, is_some, get_or, ap, sym, subst, arith}
-use Rattle.std.specs.Prelude.{All}
+use Rattle.std.proofs.Common.{◌≡◌, ◌∙◌, ℕ, is_some, get_or, Option, Some, None, ap, sym, subst, refl, arith}
+use Rattle.std.specs.Prelude.{All, IfSome}
 use Rattle.std.proofs.lemmas.List.{take_all}
 use Rattle.std.proofs.lemmas.List.Elements.{All-more}
+use Rattle.frames.specs.declared.difference.Sought.{Sought}
 use Rattle.method_frames.specs.NumberedFrames.{NumberedFrames}
-use Rattle.verify.specs.private.Ways.{IsAlikeBefore, way_difference}
-use Rattle.verify.proofs.Ways.{no_way, none_there}
+use Rattle.verify.specs.declared.difference_at.Way.{Way}
+use Rattle.verify.specs.private.Ways.{IsPassed, IsAlikeBefore, way_difference}
+use Rattle.verify.proofs.Ways.{no_way, none_there, passed_alike}
 use Rattle.verify.proofs.difference_at.unlike_before.Goals as goal
-use Rattle.verify.proofs.difference_at.unlike_before.Goals.{else-alike-way-via-then-alike-way+then-way-end+in_ok-is_unlike+else-branch, else-alike-way-via-then-alike-way+else-way-end, else-alike-way-via-else-alike-way}
+use Rattle.verify.proofs.difference_at.unlike_before.Goals.{then-is_asked+in_ok-is_unlike+else-branch, else-is_asked}
+
+-- one more was gone through
+record Goes (s : Sought) (x : NumberedFrames) (end : ℕ) (here : ℕ × Way) (now : NumberedFrames) (asked : Option Way) : Type 0 where
+  same : now ≡ x
+  alike : IsAlikeBefore s x end here
+  last : IfSome asked (λ (w : Way). way_difference s x w ≡ None)
 
 pub loop-i-preserved : goal.loop-i-preserved
 loop-i-preserved g c =
@@ -15,25 +23,22 @@ loop-i-preserved g c =
     let ways = c.args.ways.now in
     let i = c.loop-i.i in
     let here = get_or ways i no_way in
-    let P = IsAlikeBefore s x c.args.end in
-    elim c.else-alike-way.branch [
-      | else-alike-way-via-then-alike-way+then-way-end+in_ok-is_unlike+else-branch w ↦
+    let inv = c.loop-i.invariant in
+    let goes : Goes s x c.args.end here c.if-is_asked.frames c.if-is_asked.last = elim c.if-is_asked.branch [
+      | then-is_asked+in_ok-is_unlike+else-branch w ↦
+          (let none = none_there (way_difference s x here.1) (ap (λ (y : NumberedFrames). is_some (way_difference s y here.1)) (sym inv.same) ∙ sym w.in_ok-is_unlike.ensures.unlike ∙ w.if-branch.false) in
           record {
-            same = w.frames-is ∙ w.in_ok-is_unlike.ensures.same ∙ c.loop-i.invariant.same;
-            alike = All-more P ways i no_way c.loop-i-test.true c.loop-i.invariant.alike
-                (λ lt. none_there (way_difference s x here.1) (ap (λ (y : NumberedFrames). is_some (way_difference s y here.1)) (sym c.loop-i.invariant.same) ∙ sym w.in_ok-is_unlike.ensures.unlike ∙ w.if-branch.false));
-          }
-      | else-alike-way-via-then-alike-way+else-way-end w ↦
-          record {
-            same = w.frames-is ∙ c.loop-i.invariant.same;
-            alike = All-more P ways i no_way c.loop-i-test.true c.loop-i.invariant.alike (λ lt. absurd (let not = w.if-way-end.false in omega (arith, lt, not)));
-          }
-      | else-alike-way-via-else-alike-way w ↦
-          record {
-            same = w.frames-is ∙ c.loop-i.invariant.same;
-            alike = All-more P ways i no_way c.loop-i-test.true c.loop-i.invariant.alike (λ lt. c.requires.alike i no_way c.loop-i-test.true (let before = w.if-alike-way.false in omega (arith, before)));
-          }
-    ]
+            same = w.frames-is ∙ w.in_ok-is_unlike.ensures.same ∙ inv.same;
+            alike = λ lt. none;
+            last = subst (λ (o : Option Way). IfSome o (λ (w : Way). way_difference s x w ≡ None)) (sym w.last-is) none;
+          })
+      | else-is_asked w ↦ record {
+        same = w.frames-is ∙ inv.same;
+        alike = passed_alike s x c.args.alike c.args.end c.loop-i.last here inv.last (c.requires.alike i no_way c.loop-i-test.true) (w.if-is_asked.ensures.passed refl);
+        last = subst (λ (o : Option Way). IfSome o (λ (w : Way). way_difference s x w ≡ None)) (sym w.last-is) inv.last;
+      }
+    ] in
+    record { same = goes.same; alike = All-more (IsAlikeBefore s x c.args.end) ways i no_way c.loop-i-test.true inv.alike goes.alike; last = goes.last }
 
 pub returns-clause-found : goal.returns-clause-found
 returns-clause-found g c =

@@ -41,8 +41,9 @@ pub record IsPut (old : Representatives) (frame : ℕ) (new : Representatives) :
   pub moved : new.moved ≡ old.moved
   pub more : length old.buckets.items ≤ length new.buckets.items
 
--- those that stand for others beyond an offset still do
+-- those that stand for others beyond an offset still do, and no other one does
 pub record IsSorted (s : Numbering) (ds : List (ℕ × NumberedFrame)) (at : ℕ) (old new : Representatives) : Type 0 where
   pub are : AreRepresentatives s ds new
+  pub fewer : (f : ℕ) → 0 < slice_index new.until.items f → 0 < slice_index old.until.items f
   pub others : (f : ℕ) → at < slice_index old.until.items f
       → slice_index new.until.items f ≡ slice_index old.until.items f

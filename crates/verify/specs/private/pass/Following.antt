@@ -1,5 +1,7 @@
 -- The entries of an exception table while a pass goes over the code, their handlers by the places of their frames.
-use Rattle.std.specs.Prelude.{◌≡◌, ◌⊎◌, ℕ, ◌≤◌, ◌<◌, Bool, nat_le, nat_lt, ◌&&◌, pos, if◌then◌else◌, List, [], ◌∷◌, length, slice_get, slice_index, Some, None}
+use Rattle.std.specs.Prelude.{◌≡◌, ◌⊎◌, ℕ, ◌≤◌, ◌<◌, Bool, false, nat_le, nat_lt, ◌&&◌, pos, if◌then◌else◌, List, [], ◌∷◌, length, slice_get, slice_index, Option, Some, None, IsSomeAnd}
+use Rattle.std.specs.BTreeMap.{get}
+use Rattle.std.specs.Ordering.{nat_cmp}
 use Rattle.std.specs.List.Sorted.{IsNonDecreasingBy, IsPermutation}
 use Rattle.classfile.specs.Methods.{ExceptionEntry, covers}
 use Rattle.hierarchy.specs.Class.{ClassFact}
@@ -7,7 +9,7 @@ use Rattle.hierarchy.specs.Answer.{Outcome, yes}
 use Rattle.insn.specs.Offsets.{at_offset}
 use Rattle.frames.specs.FrameFact.{FrameFact}
 use Rattle.frames.specs.Slots.{to_reference}
-use Rattle.frames.specs.FrameAssignable.{frame_answer}
+use Rattle.frames.specs.FrameAssignable.{frame_answer, item_answer, stack_answer}
 use Rattle.frames.specs.Conditions.{Conditions, is_no}
 use Rattle.blocks.specs.Rows.{IsFirstUnequal}
 use Rattle.type_numbers.specs.Numbers.{Numbering, IsNumber}
@@ -22,7 +24,7 @@ use Rattle.verify.specs.declared.pass.handlers.Handler.{Handler}
 use Rattle.verify.specs.declared.pass.handlers.Handlers.{Handlers}
 use Rattle.verify.specs.private.pass.Finding.{IsFound}
 use Rattle.verify.specs.private.pass.Buckets.{AreRepresentatives}
-use Rattle.verify.specs.private.pass.Representatives.{IsLead}
+use Rattle.verify.specs.private.pass.Representatives.{IsLead, TakesLocal}
 
 -- ---- the table
 
@@ -68,6 +70,14 @@ refuses x at h = is_covering h at && is_no (handler_answer x h)
 abbrev pub IsOfEntry : NumberedFrames → Handler → Type 0
 IsOfEntry x h = (e : ExceptionEntry) × IsHandler x.types x.declared e h
 
+-- one entry, if there is one, has the frame of another, and catches the same type
+abbrev pub IsLike : Handler → Option Handler → Type 0
+IsLike h last = IsSomeAnd last (λ one. (h.frame ≡ one.frame) × (h.caught ≡ one.caught))
+
+-- one covers nothing, or is like the one that was asked last
+abbrev pub IsPassed : ℕ → Option Handler → Handler → Type 0
+IsPassed at last h = (is_covering h at ≡ false) ⊎ IsLike h last
+
 -- the locals that were kept, in a frame with nothing on its stack
 abbrev pub kept_frame : NumberedFrames → Bool → FrameFact
 kept_frame x flag = record { locals = types_by x.types x.kept; stack = []; flag = flag }
@@ -80,6 +90,41 @@ Comes x f h = (e : ExceptionEntry) → IsHandler x.types x.declared e h → IsTa
 pub record IsSettled (x : NumberedFrames) (flag : Bool) (until : List ℕ) (h : Handler) : Type 0 where
   pub stands : h.to ≤ slice_index until h.lead
   pub comes : Comes x (kept_frame x flag) h
+
+-- ---- what is known of frames that stand for others
+
+-- a declared frame takes each of these locals
+abbrev pub TakesAll : NumberedFrames → List ℕ → ℕ → Type 0
+TakesAll x locals frame = (place : ℕ) → place < length locals
+    → TakesLocal x.types x.declared frame place (slice_index locals place)
+
+-- each that stands for others does
+abbrev pub AreStanding : NumberedFrames → List ℕ → Handlers → Type 0
+AreStanding x locals h = (frame : ℕ) → 0 < slice_index h.representatives.until.items frame → TakesAll x locals frame
+
+-- the frame at an entry's handler has as many locals as the running one, and takes what is caught alone on its stack
+pub record Catches (x : NumberedFrames) (h : Handler) : Type 0 where
+  pub even : length (declared_frame x h.frame).locals ≡ length x.running.locals
+  pub stack : stack_answer (item_answer x.types.classes) (types_by x.types (h.caught ∷ []))
+      (types_by x.types (declared_frame x h.frame).stack) ≡ yes
+
+-- each entry that is remembered is so
+abbrev pub AreCaught : NumberedFrames → Handlers → Type 0
+AreCaught x h = (key : ℕ) (one : Handler) → get nat_cmp h.caught key ≡ Some one → Catches x one
+
+-- one is remembered that has the frame of another, and catches the same type
+pub record IsCaught (h : Handlers) (one : Handler) : Type 0 where
+  pub key : ℕ
+  pub known : Handler
+  pub there : get nat_cmp h.caught key ≡ Some known
+  pub frame : known.frame ≡ one.frame
+  pub caught : known.caught ≡ one.caught
+
+-- the frame that was kept comes to an entry's handler, by what is known
+pub record IsKnown (h : Handlers) (one : Handler) : Type 0 where
+  pub flag : h.flag ≡ false
+  pub stands : 0 < slice_index h.representatives.until.items one.lead
+  pub caught : IsCaught h one
 
 -- ---- while the pass goes on
 
@@ -98,6 +143,11 @@ pub record IsOpen (at n : ℕ) (h : Handlers) (place : ℕ) (one : Handler) : Ty
 -- the running frame comes to the handlers of the entries that were compared and have not ended
 abbrev pub AreBegunTaken : NumberedFrames → ℕ → Handlers → Type 0
 AreBegunTaken x at h = (place : ℕ) (one : Handler) → IsOpen at h.settled h place one → Comes x (held x) one
+
+-- and each frame that stands for others takes its locals
+pub record AreAllTaken (x : NumberedFrames) (at : ℕ) (h : Handlers) : Type 0 where
+  pub begun : AreBegunTaken x at h
+  pub standing : AreStanding x x.running.locals h
 
 -- those whose ranges have begun begin no later than an offset and end no later than another, and one ends there
 pub record HasReached (at : ℕ) (h : Handlers) : Type 0 where
@@ -123,6 +173,8 @@ pub record Follows (x : NumberedFrames) (es : List ExceptionEntry) (at : ℕ) (h
   pub settled : (place : ℕ) (one : Handler) → IsOpen at h.settled h place one
       → IsSettled x h.flag h.representatives.until.items one
   pub representatives : AreRepresentatives x.types x.declared h.representatives
+  pub standing : AreStanding x x.kept h
+  pub caught : AreCaught x h
 
 -- the entries that are to come begin after the offset
 abbrev pub AreAhead : ℕ → Handlers → Type 0

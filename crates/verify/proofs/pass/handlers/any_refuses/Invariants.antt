@@ -1,6 +1,9 @@
-use Rattle.std.proofs.Common.{◌≡◌, drop}
+use Rattle.std.proofs.Common.{◌≡◌, false, drop}
 use Rattle.std.specs.List.{list_any}
-use Rattle.verify.specs.private.pass.Following.{refuses}
+use Rattle.std.specs.Prelude.{IfSome}
+use Rattle.frames.specs.Conditions.{is_no}
+use Rattle.verify.specs.declared.pass.handlers.Handler.{Handler}
+use Rattle.verify.specs.private.pass.Following.{handler_answer, refuses}
 use Rattle.verify.proofs.pass.handlers.any_refuses.Given as goal
 
 abbrev pub invariant-loop-i : goal.invariant-loop-i
@@ -9,4 +12,5 @@ invariant-loop-i g l =
     record {
       same : l.frames ≡ l.fn.frames;
       left : any l.handlers ≡ any (drop l.i l.handlers);
+      last : IfSome l.last (λ (one : Handler). is_no (handler_answer l.fn.frames one) ≡ false);
     }

@@ -1,7 +1,7 @@
 use Rattle.std.proofs.Common.{sym, subst}
 use Rattle.std.specs.Prelude.{IfOk, IsTrue, OnOk}
 use Rattle.method_frames.specs.NumberedFrames.{NumberedFrames}
-use Rattle.verify.specs.private.pass.Following.{AreBegunTaken, Follows}
+use Rattle.verify.specs.private.pass.Following.{AreAllTaken, Follows}
 use Rattle.verify.proofs.numbered.Settling.{follows_dropped}
 use Rattle.verify.proofs.pass.handlers.Handlers.are_taken.Goals as goal
 
@@ -38,7 +38,7 @@ take_changes-requires-2 g c =
       es,
       at,
       subst (λ (z : NumberedFrames). Follows z es at (record c.take_changes.new.self { representatives = c.drop_ended.new.self })) (sym c.take_changes.ensures.same)
-          (follows_dropped x es at c.take_changes.new.self c.drop_ended.new.self sorted.are sorted.others first),
+          (follows_dropped x es at c.take_changes.new.self c.drop_ended.new.self sorted.are sorted.others sorted.fewer first),
     )
 
 pub returns-clause-followed : goal.returns-clause-followed
@@ -48,7 +48,7 @@ returns-clause-followed g c = λ es k.
     let first = c.in_ok-take_changes.ensures.followed es at k in
     let sorted = c.in_ok-drop_ended.ensures.sorted x.types x.declared first.representatives in
     let now = subst (λ (z : NumberedFrames). Follows z es at (record c.take_changes.new.self { representatives = c.drop_ended.new.self })) (sym c.take_changes.ensures.same)
-    (follows_dropped x es at c.take_changes.new.self c.drop_ended.new.self sorted.are sorted.others first) in
+    (follows_dropped x es at c.take_changes.new.self c.drop_ended.new.self sorted.are sorted.others sorted.fewer first) in
     subst (λ (z : NumberedFrames). OnOk c.take_changes-2.result (Follows z es at c.take_changes-2.new.self)) c.take_changes.ensures.same (c.take_changes-2.ensures.followed es at now)
 
 pub returns-clause-ahead : goal.returns-clause-ahead
@@ -61,5 +61,5 @@ returns-clause-taken g c = λ es k.
     let first = c.in_ok-take_changes.ensures.followed es at k in
     let sorted = c.in_ok-drop_ended.ensures.sorted x.types x.declared first.representatives in
     let now = subst (λ (z : NumberedFrames). Follows z es at (record c.take_changes.new.self { representatives = c.drop_ended.new.self })) (sym c.take_changes.ensures.same)
-    (follows_dropped x es at c.take_changes.new.self c.drop_ended.new.self sorted.are sorted.others first) in
-    subst (λ (z : NumberedFrames). IfOk c.take_changes-2.result (λ taken. IsTrue taken → AreBegunTaken z at c.take_changes-2.new.self)) c.take_changes.ensures.same (c.take_changes-2.ensures.taken es at now)
+    (follows_dropped x es at c.take_changes.new.self c.drop_ended.new.self sorted.are sorted.others sorted.fewer first) in
+    subst (λ (z : NumberedFrames). IfOk c.take_changes-2.result (λ taken. IsTrue taken → AreAllTaken z at c.take_changes-2.new.self)) c.take_changes.ensures.same (c.take_changes-2.ensures.taken es at now)

@@ -12,4 +12,4 @@ returns c = λ x es a.
     let sorted = c.sort_by_key-2.new.self.items in
     let rises = IsNonDecreasingBy-from_sort_by_key (λ (one : Handler). one.from) sorted c.in_ok-sort_by_key-2.ensures.sorted (λ a r q k. search rules) in
     let first = subst (λ xs. IsPermutation xs by_frame) (c.in_ok-by_start.ensures ∙ c.deref.ensures.value) c.in_ok-sort_by_key.ensures.permutation in
-    follows_first x es _ a (IsPermutation-trans table by_frame sorted first c.in_ok-sort_by_key-2.ensures.permutation) rises refl refl refl refl (c.new.ensures x.types x.declared)
+    follows_first x es _ a (IsPermutation-trans table by_frame sorted first c.in_ok-sort_by_key-2.ensures.permutation) rises refl refl refl refl (c.new.ensures.are x.types x.declared) c.new.ensures.none c.new-2.ensures.empty

@@ -8,10 +8,10 @@ use Rattle.verify.proofs.pass.representatives.Bucket.all_take.Goals as goal
 pub all_take-requires-clause-watch : goal.all_take-requires-clause-watch
 all_take-requires-clause-watch g c =
     let x = c.args.frames.now in
-    subst (λ fs. IsWatch x.types x.declared fs c.args.self.now.watch) (sym c.deref.ensures.value) c.requires.bucket.1.watch
+    subst (λ fs. IsWatch x.types x.declared fs c.args.self.now.watch) (sym c.deref-2.ensures.value) c.requires.bucket.1.watch
 
 pub returns-clause-taken : goal.returns-clause-taken
 returns-clause-taken g c =
     let x = c.args.frames.now in
     subst (λ (fs : List ℕ). IfOk c.all_take.result (λ all. IsTrue all → (k f : ℕ) → slice_get fs k ≡ Some f → TakesLocal x.types x.declared f c.args.place c.args.number))
-    c.deref.ensures.value c.all_take.ensures.taken
+    c.deref-2.ensures.value c.all_take.ensures.taken
