@@ -22,6 +22,8 @@ types that are assignable to others, that are not, and that compare a class whic
 frames that are assignable to others, and that are not | assignability::frames
 seven classes below one another: which is below which, and how many entries of a row were looked at | ancestor_rows::a_line_of_classes
 a step of a method, a fault, and a choice of which nothing comes | machine_steps::ends_and_faults
+numbers that an instruction does not take, each beside those that it takes | machine_faults::numbers
+`return` of a constructor while its own object is not initialized, and when it is | machine_faults::returns_of_init
 """
 
 

@@ -564,11 +564,68 @@ fn is_caught<C: Classes>(alloc: Global, classes: &C) -> Result<bool, AllocError>
     Ok(catches(&mut frames, n))
 }
 
+/// Local variables from one up to another, and whether two frames that differ in local 18 of 20 alone share them.
+const SHARED: [(usize, usize, bool); 6] = [
+    (0, 18, true),
+    (0, 19, false),
+    (18, 18, true),
+    (18, 19, false),
+    (19, 20, true),
+    (19, usize::MAX, true),
+];
+
+/// Whether two declared frames share exactly the local variables that they are said to.
+fn are_shared<C: Classes>(
+    frames: &MethodFrames<'_, '_, '_, C>,
+    frame: usize,
+    other: usize,
+    parts: &[(usize, usize, bool)],
+) -> bool
+    requires frame { frame < length frames.now.declared }
+    requires other { other < length frames.now.declared }
+{
+    for (from, to, shared) in parts {
+        if frames.share_locals(frame, other, *from, *to) != *shared {
+            return false;
+        }
+    }
+    true
+}
+
+/// Whether local variables of declared frames are told, and which of them two frames share.
+fn are_told<C: Classes>(
+    alloc: Global,
+    types: &TypeNumbers<'_, '_, C>,
+    n: Numbers,
+) -> Result<bool, AllocError>
+    requires int { IsGiven types.now n.int }
+    requires ours { IsGiven types.now n.ours }
+{
+    let mut frames = MethodFrames::new(alloc, types, 20, 0, false)?;
+    put(&mut frames, 18, n.ours)?;
+    let frame = frames.declare(3)?;
+    put(&mut frames, 18, n.int)?;
+    let other = frames.declare(9)?;
+    let told = [
+        frames.declared_local(frame, 18),
+        frames.declared_local(other, 18),
+        frames.declared_local(frame, 20),
+    ];
+    Ok(told == [n.ours, n.int, 0] && are_shared(&frames, frame, other, &SHARED))
+}
+
+fn locals_are_shared<C: Classes>(alloc: Global, classes: &C) -> Result<bool, AllocError> {
+    let mut types = TypeNumbers::new(alloc, classes);
+    let n = given_numbers(&mut types, (A, B))?;
+    are_told(alloc, &types, n)
+}
+
 fn all_hold<C: Classes>(alloc: Global, classes: &C) -> Result<bool, AllocError> {
     Ok(
         are_answered(alloc, classes, &QUESTIONS)?
             && flags_count(alloc, classes)?
-            && is_caught(alloc, classes)?,
+            && is_caught(alloc, classes)?
+            && locals_are_shared(alloc, classes)?,
     )
 }
 

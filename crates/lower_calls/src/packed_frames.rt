@@ -1,4 +1,6 @@
-use crate::making::{A, ARRAY_OF_A, ARRAY_OF_B, B, DEEPEST, TABLE_OF_INTS, frame, hasher, setting};
+use crate::making::{
+    A, ARRAY_OF_A, ARRAY_OF_B, B, DEEPEST, TABLE_OF_INTS, frame, hasher, object, setting, summary,
+};
 use frames::{
     ABSENT, Frame, FrameFault, Packed, VType, first_undecided, frame_assignable, laws, pack,
     packed_assignable,
@@ -52,6 +54,27 @@ fn types_as_slots(rt: HostRuntime) {
     let list = setting(rt.alloc());
     match Rows::new(rt.alloc(), &list, hasher()) {
         Ok(classes) => assert!(rt; has_places(&classes) && are_packed(&classes, &SLOTS)),
+        Err(_) => panic!(rt; "a hierarchy"),
+    }
+}
+
+/// Types and their slots where A is the fourth class.
+const SLOTS_OF_THE_FOURTH: [(VType<'static>, u32); 2] = [
+    (A, 0x0700_0003),
+    (ARRAY_OF_A, 0x0701_0003),
+];
+
+#[test]
+fn types_as_slots_by_places(rt: HostRuntime) {
+    let alloc = rt.alloc();
+    let list = [
+        object(alloc),
+        summary(alloc, b"I", Some(OBJECT), true),
+        summary(alloc, b"C", Some(b"A"), false),
+        summary(alloc, b"A", Some(OBJECT), false),
+    ];
+    match Rows::new(alloc, &list, hasher()) {
+        Ok(classes) => assert!(rt; are_packed(&classes, &SLOTS_OF_THE_FOURTH)),
         Err(_) => panic!(rt; "a hierarchy"),
     }
 }

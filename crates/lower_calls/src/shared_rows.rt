@@ -1,7 +1,9 @@
 ghost use Rattle.std.specs.Prelude.{◌≡◌, ◌<◌, length};
 
+use blocks::lanes::decided_lanes;
 use blocks::{Arena, Row, laws};
 use std::alloc::{AllocError, Global};
+use std::simd::u32x8;
 use std::test::*;
 
 /// Puts a number into a slot of the running row, if it has that slot.
@@ -194,6 +196,42 @@ fn changes_are_told(alloc: Global, count: u16, place: usize) -> Result<bool, All
     is_told(&mut arena, place)
 }
 
+/// Parts of two rows that differ at slots 17 and 39 alone, and whether the rows are equal there.
+const PARTS: [(usize, usize, bool); 9] = [
+    (0, 17, true),
+    (0, 18, false),
+    (17, 17, true),
+    (17, 18, false),
+    (18, 0, true),
+    (18, 39, true),
+    (18, 40, false),
+    (39, usize::MAX, false),
+    (40, usize::MAX, true),
+];
+
+/// Whether two declared rows are equal in each part that is said to be, and in no other.
+fn are_equal_in(arena: &Arena, row: Row, other: Row, parts: &[(usize, usize, bool)]) -> bool
+    requires row { row < length arena.now.declared }
+    requires other { other < length arena.now.declared }
+{
+    for (from, to, equal) in parts {
+        if arena.are_equal(row, other, *from, *to) != *equal {
+            return false;
+        }
+    }
+    true
+}
+
+/// Whether a row is equal to itself, and to another one in all parts but those in which they differ.
+fn parts_are_compared(alloc: Global) -> Result<bool, AllocError> {
+    let mut arena = filled(alloc, 40, 1)?;
+    let row = arena.declare()?;
+    put(&mut arena, 17, 2)?;
+    put(&mut arena, 39, 3)?;
+    let other = arena.declare()?;
+    Ok(arena.are_equal(row, row, 0, 40) && are_equal_in(&arena, row, other, &PARTS))
+}
+
 /// Whether 9 takes the place of 5 throughout the running row, whose last slot this is, and not in a declared one that
 /// holds the same; and does so again where that one is taken on.
 fn is_replaced(arena: &mut Arena, row: Row, last: usize) -> Result<bool, AllocError>
@@ -232,7 +270,7 @@ fn rows_are_kept(alloc: Global) -> Result<bool, AllocError> {
 }
 
 fn all_hold(alloc: Global) -> Result<bool, AllocError> {
-    let rows = rows_are_kept(alloc)? && top_is_wanted(alloc)?;
+    let rows = rows_are_kept(alloc)? && top_is_wanted(alloc)? && parts_are_compared(alloc)?;
     let changes = changes_are_told(alloc, 17, 16)? && changes_are_told(alloc, 5000, 4100)?;
     let replaced = numbers_are_replaced(alloc, 9)? && numbers_are_replaced(alloc, 5000)?;
     Ok(rows && changes && replaced && what_was_said_is_kept(alloc)? && begins_anew(alloc)?)
@@ -251,6 +289,37 @@ fn rows_are_shared(rt: HostRuntime) {
 #[test]
 fn memory_runs_out_for_shared_rows(rt: HostRuntime) {
     assert!(rt; all_hold(rt.alloc()) != Ok(false));
+}
+
+/// Eight numbers, eight that are wanted, and how many of them fit up to the first that does not: where every number fits
+/// 0, and where none does.
+type Lanes = ([u32; 8], [u32; 8], usize, usize);
+
+const LANES: [Lanes; 6] = [
+    ([1, 2, 3, 4, 5, 6, 7, 8], [1, 2, 3, 4, 5, 6, 7, 8], 8, 8),
+    ([1, 2, 3, 4, 5, 6, 7, 8], [1, 2, 3, 4, 5, 6, 7, 9], 7, 7),
+    ([9, 2, 3, 4, 5, 6, 7, 8], [1, 2, 3, 4, 5, 6, 7, 9], 0, 0),
+    ([1, 2, 3, 4, 5, 6, 7, 8], [1, 2, 0, 4, 5, 6, 7, 8], 8, 2),
+    ([1, 2, 0, 4, 5, 6, 7, 8], [1, 2, 3, 4, 5, 6, 7, 8], 2, 2),
+    ([1, 2, 0, 4, 5, 6, 7, 8], [1, 2, 0, 4, 5, 9, 7, 8], 5, 2),
+];
+
+fn are_decided(rows: &[Lanes]) -> bool {
+    for (numbers, wanted, fitting, others) in rows {
+        let numbers = u32x8::from_slice(numbers);
+        let wanted = u32x8::from_slice(wanted);
+        if decided_lanes::<0, true>(numbers, wanted) != *fitting
+            || decided_lanes::<0, false>(numbers, wanted) != *others
+        {
+            return false;
+        }
+    }
+    true
+}
+
+#[test]
+fn numbers_by_lanes(rt: HostRuntime) {
+    assert!(rt; are_decided(&LANES));
 }
 
 #[test]

@@ -5,6 +5,7 @@
 //! | File | What it tests |
 //! |---|---|
 //! | `machine_steps`, `object_steps` | `machine`: single steps |
+//! | `machine_faults` | `machine`: each kind of fault; `fault_setting` has what its rows stand on |
 //! | `walks`, `walk_choices` | `machine`: steps by a list of choices, from where a method begins |
 //! | `instruction_rules` | `verify`: single instructions by their rules |
 //! | `verdicts` | `verify`: verdicts and reports |
@@ -27,6 +28,8 @@ mod command_lines;
 #[cfg(test)]
 mod dynamic_calls;
 #[cfg(test)]
+mod fault_setting;
+#[cfg(test)]
 mod fault_texts;
 #[cfg(test)]
 mod file_answers;
@@ -34,6 +37,8 @@ mod file_answers;
 mod instruction_rules;
 #[cfg(test)]
 mod judged_files;
+#[cfg(test)]
+mod machine_faults;
 #[cfg(test)]
 mod machine_steps;
 #[cfg(test)]
