@@ -1,9 +1,19 @@
 """Times programs, one process a file. Times are of the whole process, from fork to exit, or those of the processor."""
 import os
 import pathlib
+import re
+import subprocess
 import time
 
-PROGRAM = str(pathlib.Path(__file__).resolve().parent.parent / "crates/classck/out/classck")
+TOP = pathlib.Path(__file__).resolve().parent.parent
+PROGRAM = str(TOP / "crates/classck/out/classck")
+OBJECT = str(TOP / "examples/known/java.lang.Object.class")
+
+
+def is_under_object(path):
+    """Whether the superclass of the class in a file is java/lang/Object."""
+    text = subprocess.run([PROGRAM, "show", path], stdout=subprocess.PIPE, check=False).stdout.decode()
+    return re.search(r"(?m)^super java/lang/Object$", text) is not None
 
 
 def ended(words):

@@ -1,62 +1,38 @@
 //! Opens and reads the files of a line.
-ghost use Rattle.std.specs.Prelude.{◌≡◌, ◌⊎◌, ◌++◌, IfOk, IfErr, IfSome, take, length};
+ghost use Rattle.std.specs.Prelude.{◌≡◌, IfOk, IfErr, length};
+ghost use Rattle.answers.specs.Files.{file_view};
 ghost use Rattle.classck.specs.Endings.{StopsReading};
-ghost use Rattle.layout.specs.declared.fault.ReadFault.TheVariants.{OutOfMemory, ReadFailed};
-ghost use Rattle.classck.specs.FileReads.{ReadsOn, BeginsWith};
-ghost use Rattle.classfile.specs.Outline.{OutlineFault, IsLostOr};
 
 use crate::ending::Ending;
-use classfile::{CutShort, read_class};
+use classfile::CutShort;
 use command_line::MainFault;
+use file_reads::read_whole;
 use layout::ReadFault;
 use std::alloc::Global;
 use std::fs::File;
-use std::io::{BufReader, Read};
+use std::io::BufReader;
 
-/// A byte that stands after the bytes of a class, if there is one, is appended to them: it tells that the file is
-/// longer.
-fn read_behind<R: Read>(mut bytes: Vec<u8>, reader: &mut R) -> Result<Vec<u8>, CutShort>
-    ensures bytes { IfOk result (λ v. IfSome (R.remaining reader.old) (λ rest. v.items ≡ bytes.items ++ take 1 rest)) }
-    ensures fault { IfErr result (λ e. (e.bytes.items ≡ bytes.items)
-        × ((e.why ≡ OutOfMemory) ⊎ (e.why ≡ ReadFailed (length bytes.items)))) }
+/// Gives back the room that the bytes of a file do not need, of which very many files would take as much as their own
+/// bytes many times.
+fn without_room(read: Result<Vec<u8>, CutShort>) -> Result<Vec<u8>, CutShort>
+    ensures { file_view result ≡ file_view read }
 {
-    let at = bytes.len();
-    let mut next = [0];
-    match reader.read(&mut next) {
-        Ok(0) => Ok(bytes),
-        Ok(_) => match bytes.push(next[0]) {
-            Ok(()) => Ok(bytes),
-            Err(_) => Err(CutShort {
-                bytes,
-                why: ReadFault::OutOfMemory,
-            }),
-        },
-        Err(_) => Err(CutShort {
-            bytes,
-            why: ReadFault::ReadFailed { at },
-        }),
+    match read {
+        Ok(mut bytes) => {
+            bytes.shrink_to_fit();
+            Ok(bytes)
+        }
+        Err(mut cut) => {
+            cut.bytes.shrink_to_fit();
+            Err(cut)
+        }
     }
-}
-
-/// The bytes of the class that a file holds, and one byte more if there is one.
-#[tactic(auto, using(crate::proofs::Fronts::taken_in_front, crate::proofs::Fronts::stopped_in_front))]
-fn read_whole<R: Read>(alloc: Global, reader: &mut R) -> Result<Vec<u8>, CutShort>
-    // Where it is known what the reader gives, that is the front of it that is an outline, and the byte after it.
-    ensures bytes { IfOk result (λ v. IfSome (R.remaining reader.old) (λ stream. ReadsOn stream v.items)) }
-    // Otherwise it has no such front, or memory ran out, or the reader failed.
-    ensures fault { IfErr result (λ e. IfSome (R.remaining reader.old)
-        (λ stream. IsLostOr (OutlineFault stream) e.why)) }
-    // Its bytes up to there are kept.
-    ensures held { IfErr result (λ e. IfSome (R.remaining reader.old) (λ stream. BeginsWith stream e.bytes.items)) }
-{
-    let class = read_class(alloc, reader)?;
-    read_behind(class, reader)
 }
 
 /// Reads a file through a buffer, as far as its class reaches and one byte more.
 fn read_file(alloc: Global, file: File) -> Result<Vec<u8>, CutShort> {
     match BufReader::new(alloc, file) {
-        Ok(mut reader) => read_whole(alloc, &mut reader),
+        Ok(mut reader) => without_room(read_whole(alloc, &mut reader)),
         Err(_) => Err(CutShort {
             bytes: Vec::new(alloc),
             why: ReadFault::OutOfMemory,

@@ -1,0 +1,2 @@
+pub mod FileReads
+pub mod private

@@ -1,0 +1,2 @@
+-- Words of the code's own steps, which its private contracts use: nothing that a reader must believe rests on them.
+pub mod Passing
