@@ -1,4 +1,8 @@
-"""The classes of folders by their names, and the known classes of examples/judge_jar: those that the classes of a jar name."""
+"""The classes of folders by their names, and the known classes of the classes of a jar: those of places that these name.
+
+A place has `classes(package)`, the names of the files of that package; `file(package, last)`, the file of one of them, or None; and `beginnings()`, with
+which the names of its classes begin.
+"""
 import os
 import re
 
@@ -12,6 +16,8 @@ UNNAMED = ["java/io/Serializable", *(f"java/lang/{it}" for it in ("Class", "Clon
 SIZES = {3: 5, 4: 5, 5: 9, 6: 9, 7: 3, 8: 3, 9: 5, 10: 5, 11: 5, 12: 5, 15: 4, 16: 3, 17: 5, 18: 5, 19: 3, 20: 3}
 # The answers on bytes that are no class file.
 FAULTS = (IndexError, KeyError, TypeError, UnicodeDecodeError)
+# So many patterns are looked for one by one.
+MOST_PATTERNS = 16
 # The names of packages that are looked for.
 NAME = re.compile(r"[\w$]+", re.ASCII)
 
@@ -20,7 +26,7 @@ class Folder:
     """Class files by their names below a folder."""
 
     def __init__(self, path):
-        self.path = path
+        self.path, self.base = path, os.path.abspath(path)
         try:
             os.scandir(path).close()
         except OSError as why:
@@ -31,12 +37,34 @@ class Folder:
         file = os.path.join(self.path, *name.split("/")) + ".class"
         return file if os.path.isfile(file) else None
 
+    def classes(self, package):
+        return {it.name for it in entries(f"{self.base}/{package}")}
+
+    def file(self, package, last):
+        return regular(f"{self.base}/{package}/{last}")
+
     def beginnings(self):
         """The beginnings of the names of its classes: the folders in it, and for one that holds nothing but another folder the path of both."""
         for it in entries(self.path):
             if it.is_dir() and NAME.fullmatch(it.name):
                 below = entries(it.path)
                 yield f"{it.name}/{below[0].name}" if len(below) == 1 and below[0].is_dir() else it.name
+
+
+def regular(path):
+    """The path, if a regular file is there, or a link to one."""
+    return path if os.path.isfile(path) else None
+
+
+def beginnings_of(packages):
+    """The beginnings of the names of classes of these packages: the first part of each, and where few go on from it, and no class stands there, both."""
+    found = {}
+    for first, _, rest in (it.partition("/") for it in packages if it):
+        found.setdefault(first, set()).add(rest.partition("/")[0])
+    for first, seconds in found.items():
+        if NAME.fullmatch(first):
+            is_short = "" in seconds or len(seconds) > 8 or not all(map(NAME.fullmatch, seconds))
+            yield from [first] if is_short else [f"{first}/{it}" for it in seconds]
 
 
 def entries(path):
@@ -102,32 +130,31 @@ def names_in(data):
 
 
 class Known:
-    """The classes of folders: each package is listed once, and `files` has those whose names were added, with the classes above them."""
+    """The classes of places: each package is listed once, and `files` has those whose names were added, with the classes above them."""
 
-    def __init__(self, folders):
-        self.paths, self.packages, self.files, self.seen = [os.path.abspath(it.path) for it in folders], {}, {}, set()
-        beginnings = sorted({re.escape(name) for it in folders for name in it.beginnings()}, key=len, reverse=True)
+    def __init__(self, places):
+        self.places, self.packages, self.files, self.seen = places, {}, {}, set()
+        beginnings = sorted({re.escape(name) for it in places for name in it.beginnings()}, key=len, reverse=True)
         # A pattern that begins with a text is found faster than one of several, where they are few.
-        groups = beginnings if len(beginnings) <= 8 else [f"(?:{'|'.join(beginnings)})"]
+        groups = beginnings if len(beginnings) <= MOST_PATTERNS else [f"(?:{'|'.join(beginnings)})"]
         self.patterns = [re.compile(rf"{it}/[\w$/]+".encode(errors="replace")) for it in groups]
         self.add(UNNAMED)
 
     def find(self, name):
-        """The file of the class of this name in the first folder that has it, or None."""
+        """The file of the class of this name in the first place that has it, or None."""
         package, _, last = name.rpartition("/")
         places = self.packages.get(package)
         if places is None:
-            paths = [f"{it}/{package}" for it in self.paths]
-            places = self.packages[package] = [(path, names) for path in paths if (names := {it.name for it in entries(path)})]
+            places = self.packages[package] = [(it, names) for it in self.places if (names := it.classes(package))]
         last += ".class"
-        return next((f"{path}/{last}" for path, names in places if last in names and os.path.isfile(f"{path}/{last}")), None)
+        return next((file for it, names in places if last in names and (file := it.file(package, last))), None)
 
     def named(self, data):
-        """The names in the bytes of classes that may be those of classes of the folders."""
+        """The names in the bytes of classes that may be those of classes of the places."""
         return {name for it in self.patterns for name in it.findall(data)}
 
     def add(self, names):
-        """Adds the classes of these names that the folders have, and those above them; none whose file holds a class of another name."""
+        """Adds the classes of these names that the places have, and those above them; none whose file holds a class of another name."""
         wanted = [*names]
         while wanted:
             name = wanted.pop()

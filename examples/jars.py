@@ -1,4 +1,4 @@
-"""Jars as examples/judge_jar reads them: their classes, in files under numbers, and the jars within them."""
+"""Jars that are judged: their classes, in files under numbers, and the jars within them; and folders in the place of jars."""
 import collections
 import contextlib
 import io
@@ -10,7 +10,7 @@ import tempfile
 import zipfile
 import zlib
 
-from folders import MOST
+from folders import MOST, contents
 from output import Refused, escaped, reason
 
 # The most bytes that the classes of all jars may have, and that a jar within another may have.
@@ -45,41 +45,16 @@ def name_of(info):
     return name.encode("cp437").decode("utf-8", "surrogateescape")
 
 
-class Jar:
-    """A jar, its classes in files under numbers, and the jars within it. `outer` stands in front of the names of its entries.
+class Judged:
+    """The classes of a jar or folder by their versions and names, in files, and the jars within it. `outer` stands in front of the names of its entries.
 
-    `source` is its path, or a file in memory; `room` removes the files when it is left. The classes of the folders that the jar
-    names are known afterwards. All its classes have `size` bytes, and at most `left`.
+    The classes of the places that they name are known afterwards. All of them have `size` bytes. `is_within`: whether it is a jar within another.
     """
 
-    def __init__(self, label, source, room, known, outer="", left=MOST_CLASSES):
-        self.label, self.source, self.known, self.outer, self.entries, self.files = escaped(label), source, known, outer, [], {}
-        with self.told():
-            if isinstance(source, str) and not stat.S_ISREG(os.stat(source).st_mode):
-                raise Refused(f"{self.label} cannot be read: it is no regular file")
-            with zipfile.ZipFile(source) as it:
-                infos = {it: name_of(it) for it in it.infolist()}
-        infos = {it: name for it, name in infos.items() if not name.endswith("/")}
-        self.refuse_entries(infos)
-        self.nested = [it for it, name in infos.items() if name.endswith((".jar", ".war", ".ear"))]
-        classes = [it for it, name in infos.items() if name.endswith(".class") and os.path.basename(name) != "module-info.class"]
-        # No more is unpacked of an entry than the table tells of it.
-        self.size = sum(min(it.file_size, MOST) for it in classes)
-        if self.size > left:
-            raise Refused(f"{self.label} has classes of more than {left} bytes")
-        with self.told():
-            folder = room.enter_context(tempfile.TemporaryDirectory(dir=in_memory(self.size)))
-            work = [(it, self.add(infos[it], f"{folder}/{number}.class")) for number, it in enumerate(classes, 1)]
-            self.unpack(work, min((os.cpu_count() or 1) - 1, self.size // (NESTED_PART if outer else PART)))
+    is_within = False
 
-    def refuse_entries(self, infos):
-        """Refuses two entries of one name, and one that is packed in a way that a virtual machine does not know."""
-        twice = [name for name, n in collections.Counter(infos.values()).items() if n > 1]
-        if twice:
-            raise Refused(f"{self.label} has the entry {escaped(twice[0])} twice")
-        packed = [name for it, name in infos.items() if it.compress_type not in (zipfile.ZIP_STORED, zipfile.ZIP_DEFLATED)]
-        if packed:
-            raise Refused(f"{self.label} has the entry {escaped(packed[0])}, which is neither stored nor deflated")
+    def __init__(self, label, known, outer=""):
+        self.label, self.known, self.outer, self.entries, self.files, self.nested, self.size = escaped(label), known, outer, [], {}, [], 0
 
     @contextlib.contextmanager
     def told(self):
@@ -99,6 +74,51 @@ class Jar:
             raise Refused(f"{self.label} has the class {escaped(name)} twice, once as {escaped(entry)}")
         self.entries.append((escaped(self.outer + entry), version, name, file))
         return file
+
+    def refuse_size(self, left):
+        """Refuses more bytes of classes than there may be."""
+        if self.size > left:
+            raise Refused(f"{self.label} has classes of more than {left} bytes")
+
+    def seen_from(self, version):
+        """Its classes by their names as those of a version see them: of one name that of the highest version up to this one."""
+        found = {}
+        for it in sorted(it for it in self.files if it <= version):
+            found |= self.files[it]
+        return found
+
+
+class Jar(Judged):
+    """A jar. `source` is its path, or a file in memory; `room` removes the files when it is left. All its classes have at most `left` bytes."""
+
+    def __init__(self, label, source, room, known, outer="", left=MOST_CLASSES):
+        super().__init__(label, known, outer)
+        self.source = source
+        with self.told():
+            if isinstance(source, str) and not stat.S_ISREG(os.stat(source).st_mode):
+                raise Refused(f"{self.label} cannot be read: it is no regular file")
+            with zipfile.ZipFile(source) as it:
+                infos = {it: name_of(it) for it in it.infolist()}
+        infos = {it: name for it, name in infos.items() if not name.endswith("/")}
+        self.refuse_entries(infos)
+        self.nested = [it for it, name in infos.items() if is_jar(name)]
+        classes = [it for it, name in infos.items() if is_class(name)]
+        # No more is unpacked of an entry than the table tells of it.
+        self.size = sum(min(it.file_size, MOST) for it in classes)
+        self.refuse_size(left)
+        with self.told():
+            folder = room.enter_context(tempfile.TemporaryDirectory(dir=in_memory(self.size)))
+            work = [(it, self.add(infos[it], f"{folder}/{number}.class")) for number, it in enumerate(classes, 1)]
+            self.unpack(work, min((os.cpu_count() or 1) - 1, self.size // (NESTED_PART if outer else PART)))
+
+    def refuse_entries(self, infos):
+        """Refuses two entries of one name, and one that is packed in a way that a virtual machine does not know."""
+        twice = [name for name, n in collections.Counter(infos.values()).items() if n > 1]
+        if twice:
+            raise Refused(f"{self.label} has the entry {escaped(twice[0])} twice")
+        packed = [name for it, name in infos.items() if it.compress_type not in (zipfile.ZIP_STORED, zipfile.ZIP_DEFLATED)]
+        if packed:
+            raise Refused(f"{self.label} has the entry {escaped(packed[0])}, which is neither stored nor deflated")
 
     def unpack(self, work, count):
         """Unpacks the classes by so many processes, and finds the known classes beside them."""
@@ -135,25 +155,85 @@ class Jar:
         for it in lines:
             self.known.add([it[:-1].decode()])
 
-    def seen_from(self, version):
-        """Its classes by their names as those of a version see them: of one name that of the highest version up to this one."""
-        found = {}
-        for it in sorted(it for it in self.files if it <= version):
-            found |= self.files[it]
-        return found
-
-    def within(self, room):
-        """The jars within it."""
-        left = MOST_CLASSES - self.size
+    def within(self, room, left=None):
+        """The jars within it, whose classes have at most `left` bytes."""
+        left = MOST_CLASSES - self.size if left is None else left
         with self.told(), zipfile.ZipFile(self.source) as outer:
             for it in self.nested:
                 data = outer.open(it).read(MOST_NESTED + 1)
                 name = name_of(it)
                 if len(data) > MOST_NESTED:
                     raise Refused(f"{escaped(name)} has more than {MOST_NESTED} bytes")
-                jar = Jar(name, io.BytesIO(data), room, self.known, f"{name}!", left)
+                jar = Jar(name, io.BytesIO(data), room, self.known, f"{self.outer}{name}!", left)
+                # Its bytes are needed no more: those of very many jars would fill the memory.
+                jar.source, jar.is_within = None, True
                 left -= jar.size
                 yield jar
+
+
+class Tree(Judged):
+    """A folder of classes by their names. No link to a folder is followed. A path that is not UTF-8, which the program does not take, has a link in `room`."""
+
+    def __init__(self, path, room, known, outer="", left=MOST_CLASSES):
+        super().__init__(path, known, outer)
+        self.links = room.enter_context(tempfile.TemporaryDirectory())
+        with self.told():
+            for entry, file in files_below(path):
+                if is_jar(entry):
+                    self.nested.append((entry, file))
+                elif is_class(entry):
+                    self.size += min(regular_size(file), MOST)
+                    self.refuse_size(left)
+                    self.add(entry, self.named_in_utf8(file))
+        for *_, file in self.entries:
+            self.known.add([it.decode() for it in self.known.named(contents(file))])
+
+    def named_in_utf8(self, file):
+        """The path of a file, or a link to it."""
+        try:
+            file.encode()
+            return file
+        except UnicodeEncodeError:
+            link = f"{self.links}/{len(self.entries)}.class"
+            os.symlink(os.path.abspath(file), link)
+            return link
+
+    def within(self, room, left):
+        """The jars below it, whose classes have at most `left` bytes."""
+        for name, path in self.nested:
+            jar = Jar(path, path, room, self.known, f"{self.outer}{name}!", left)
+            jar.is_within = True
+            left -= jar.size
+            yield jar
+
+
+def is_class(name):
+    return name.endswith(".class") and os.path.basename(name) != "module-info.class"
+
+
+def is_jar(name):
+    return name.endswith((".jar", ".war", ".ear"))
+
+
+def raised(why):
+    raise why
+
+
+def files_below(path):
+    """The files below a folder in the order of their names, each as its path below it and its path."""
+    for at, folders, names in os.walk(path, onerror=raised):
+        folders.sort()
+        for name in sorted(names):
+            file = os.path.join(at, name)
+            yield os.path.relpath(file, path), file
+
+
+def regular_size(file):
+    """The bytes of a file, which is a regular one."""
+    found = os.stat(file)
+    if not stat.S_ISREG(found.st_mode):
+        raise Refused(f"{escaped(file)} cannot be read: it is no regular file")
+    return found.st_size
 
 
 def beside(read, written, lines):

@@ -71,6 +71,8 @@ def call(*words):
         status = process.wait()
         if len(text) > MOST_OUTPUT:
             raise Refused(f"an answer has more than {MOST_OUTPUT} bytes")
+        if status < 0:
+            raise Refused(f"the program was ended by signal {-status}")
         errors.seek(0)
         return text.decode(), errors.read(1 << 16).decode(errors="replace").splitlines(), status
 

@@ -1,0 +1,12 @@
+"""The parts of classck-jar, beside those that it has in common with examples/judge_jar.
+
+  command     the command line, and what is done in turn
+  jdk         the classes of a JDK
+  class_path  jars and folders of a class path, and the Class-Path of manifests
+  inputs      the jars and folders that are judged
+  verdicts    the three answers, of each class and of all
+  policy      what may be missing and what is let pass
+  reports     the report as text and as JSON Lines
+  sarif       the report as SARIF
+  junit       the report as JUnit XML
+"""

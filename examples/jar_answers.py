@@ -1,0 +1,47 @@
+"""The answers on the classes of jars, from one process of the program or from processes for each class."""
+import os
+
+from class_paths import class_paths
+from judging import Verifier, lacking_in
+from judging_each import EachVerifier
+from output import escaped
+
+
+class Answers:
+    """The answers on the classes of jars, each as text and status, by their files."""
+
+    def __init__(self, jars, folders, known, dynamic):
+        self.paths = class_paths(jars, [known] if known else folders)
+        self.of_file = {file: (name, path) for path in self.paths for name, file in path.own.items()}
+        self.dynamic, self.each, self.found = dynamic, EachVerifier(["--dynamic"] if dynamic else [], known), {}
+
+    def judge(self):
+        """Has one process for each class path judge the classes."""
+        for path in self.paths:
+            self.found |= self.each.judge(path)
+
+    def judge_by_processes(self):
+        """Has processes for each class judge it, on all processors."""
+        # Loaded where it is needed: that takes as long as unpacking hundreds of classes.
+        import concurrent.futures
+
+        verifier = Verifier(self.dynamic)
+        with concurrent.futures.ThreadPoolExecutor(os.cpu_count()) as threads:
+            calls = {file: threads.submit(verifier.judge, file, path, name) for file, (name, path) in self.of_file.items()}
+            try:
+                self.found = {file: it.result() for file, it in calls.items()}
+            finally:
+                threads.shutdown(cancel_futures=True)
+
+    def needs(self):
+        """The class that is in no place, for each class that is left out because of it, by their names as they are printed."""
+        lacking = {escaped(name): lacking_in(self.found[file][0]) for file, (name, _) in self.of_file.items()}
+        return {name: it for name, it in lacking.items() if it}
+
+    def explain(self, files):
+        """Puts the explanations into the answers on these files."""
+        self.each.read_all(files)
+        verifier = Verifier(self.dynamic, explains=True, told=self.each.head)
+        for file in files:
+            name, path = self.of_file[file]
+            self.found[file] = verifier.judge(file, path, name)
