@@ -139,15 +139,12 @@ class Crate:
         self.functions = [x for path, text in self.texts.items() if path.endswith(".rt") for x in functions(path, text)]
         self.named = {str(it): it for it in self.functions}
 
-    def proof_folders(self, function):
-        """The folders of the proof of a function, which stand at rattle's name of it."""
+    def proof_folders(self, function, mark=""):
+        """The folders of the proof of a function, which stand at rattle's name of it; where it calls itself, at that name with the mark +."""
         found = {os.path.dirname(it) for it in self.texts if it.startswith("proofs/")}
-        tail = function.tail.replace("::", "/")
+        *outer, last = function.tail.split("::")
+        tail = "/".join([*outer, mark + last])
         return [it for it in found if (f"/{it}".endswith(f"/{tail}") if function.owner else it == f"proofs/{tail}")]
-
-    def places_of(self, function):
-        """Where the proof of a function would stand, if its name does not depend on an impl."""
-        return [] if function.owner else [f"proofs/{function.tail.replace('::', '/')}"]
 
     def word_for(self, function):
         """By which word rattle knows the function, and no other one."""
@@ -216,6 +213,6 @@ class Stubs:
 
     def all_folders(self, room):
         """The folders of the proofs of these functions in a copy of the crate, with those of a function that calls itself."""
-        own = [it for path, spans in self.spans.items() for it in self.crate.functions if it.path == path and any(it.body == at for at, _, _ in spans)]
-        cycles = [room / os.path.dirname(it) / f"+{os.path.basename(it)}" for it in {x for one in own for x in self.crate.places_of(one)}]
-        return [*[room / it for it in self.folders], *cycles]
+        starts = {(path, at) for path, spans in self.spans.items() for at, _, _ in spans}
+        own = [it for it in self.crate.functions if (it.path, it.body) in starts]
+        return [room / it for it in [*self.folders, *(x for one in own for x in self.crate.proof_folders(one, "+"))]]
