@@ -11,7 +11,7 @@ import java.nio.file.Path;
 import java.security.SecureRandom;
 
 /**
- * Calls libclassck, from Java 22 on. {@code java -Dclassck.library=libclassck.so --enable-native-access=ALL-UNNAMED
+ * Calls libclassck, from Java 22 on. {@code java -Dclassck.path=libclassck.so --enable-native-access=ALL-UNNAMED
  * Classck.java CLASS KNOWN..} prints what {@code classck verify} prints.
  */
 public final class Classck {
@@ -32,7 +32,7 @@ public final class Classck {
 
     /** The call of the library. It may take long, so it gets copies: a call with arrays of the heap holds up the collector. */
     private static MethodHandle call() {
-        var library = SymbolLookup.libraryLookup(Path.of(System.getProperty("classck.library")), Arena.global());
+        var library = SymbolLookup.libraryLookup(Path.of(System.getProperty("classck.path")), Arena.global());
         var pointer = ValueLayout.ADDRESS;
         var number = ValueLayout.JAVA_LONG;
         var type = FunctionDescriptor.ofVoid(pointer, pointer, number, pointer, number, pointer, number, pointer);

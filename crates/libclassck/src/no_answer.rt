@@ -1,6 +1,6 @@
 //! Why a call has no answer.
 ghost use Rattle.std.specs.Prelude.{◌≡◌};
-ghost use Rattle.library.specs.Calls.{no_status};
+ghost use Rattle.libclassck.specs.Calls.{no_status};
 
 use answers::AnswerFault;
 use std::alloc::AllocError;
@@ -30,7 +30,7 @@ impl NoAnswer {
 }
 
 impl From<AllocError> for NoAnswer {
-    ghost use Rattle.library.specs.declared.no_answer.NoAnswer.TheVariants as none;
+    ghost use Rattle.libclassck.specs.declared.no_answer.NoAnswer.TheVariants as none;
 
     ghost from_gives = { λ _ e. e ≡ none.OutOfMemory };
 
@@ -40,7 +40,7 @@ impl From<AllocError> for NoAnswer {
 }
 
 impl From<AnswerFault> for NoAnswer {
-    ghost use Rattle.library.specs.declared.no_answer.NoAnswer.TheVariants as none;
+    ghost use Rattle.libclassck.specs.declared.no_answer.NoAnswer.TheVariants as none;
 
     ghost from_gives = { λ _ e. e ≡ none.OutOfMemory };
 

@@ -1,6 +1,6 @@
 use Rattle.answers.specs.Files.{file_view}
-use Rattle.library.proofs.Telling.{told_by, nothing_by_request}
-use Rattle.library.proofs.answering.answered.Goals as goal
+use Rattle.libclassck.proofs.Telling.{told_by, nothing_by_request}
+use Rattle.libclassck.proofs.answering.answered.Goals as goal
 
 pub returns-in_default-clause-none : goal.returns-in_default-clause-none
 returns-in_default-clause-none c = λ same. nothing_by_request c.args.request.now c.args.bytes.now c.args.ends.now c.in_default.ensures.none

@@ -16,7 +16,7 @@ mod request;
 mod seed;
 
 ghost use Rattle.std.specs.Prelude.{◌≡◌, ◌++◌, length, take, drop};
-ghost use Rattle.library.specs.Calls.{Answers};
+ghost use Rattle.libclassck.specs.Calls.{Answers};
 
 use crate::answering::answered;
 pub use request::Request;

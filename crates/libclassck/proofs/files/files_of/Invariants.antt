@@ -1,7 +1,7 @@
 -- The files so far, and those that are left, are those of all ends.
 use Rattle.std.proofs.Common.{◌≡◌, map, drop}
-use Rattle.library.proofs.Parting.{files_in, behind}
-use Rattle.library.proofs.files.files_of.Given as goal
+use Rattle.libclassck.proofs.Parting.{files_in, behind}
+use Rattle.libclassck.proofs.files.files_of.Given as goal
 
 abbrev pub invariant-loop-end : goal.invariant-loop-end
 invariant-loop-end l =

@@ -1,7 +1,7 @@
 use Rattle.std.proofs.Common.{map, inl, inr, sym, ◌∙◌}
-use Rattle.library.proofs.Parting.{stopped, ended, left_over}
-use Rattle.library.proofs.files.files_of.Goals as goal
-use Rattle.library.proofs.files.files_of.Goals.{then-end-start-via-then-end-start, then-end-start-via-else-end-start+then-rest-end}
+use Rattle.libclassck.proofs.Parting.{stopped, ended, left_over}
+use Rattle.libclassck.proofs.files.files_of.Goals as goal
+use Rattle.libclassck.proofs.files.files_of.Goals.{then-end-start-via-then-end-start, then-end-start-via-else-end-start+then-rest-end}
 
 pub returns-then-end-start : goal.returns-then-end-start
 returns-then-end-start c =

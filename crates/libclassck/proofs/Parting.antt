@@ -5,7 +5,7 @@ use Rattle.std.proofs.lemmas.List.{take-append-drop, append-nil, length-append, 
 use Rattle.std.specs.Prelude.{nat_eq, nat_lt, if◌then◌else◌}
 use Rattle.std.specs.List.{flat_map}
 use Rattle.std.specs.Option.{option_map}
-use Rattle.library.specs.Files.{AreFiles, ends_from}
+use Rattle.libclassck.specs.Files.{AreFiles, ends_from}
 
 -- the bytes of files
 abbrev pub joined : List (List ℕ) → List ℕ

@@ -3,12 +3,12 @@ use Rattle.std.specs.Prelude.{◌≡◌, ◌⊎◌, ◌++◌, ℕ, List, length,
 use Rattle.answers.specs.Answers.{Says}
 use Rattle.answers.specs.Files.{File}
 use Rattle.answers.specs.declared.command.Command.{Command}
-use Rattle.library.specs.Files.{AreFiles, AreReads}
-use Rattle.library.specs.Requests.{Asks}
-use Rattle.library.specs.declared.request.Request.{Request}
-use Rattle.library.specs.declared.Outcome.{Outcome}
-use Rattle.library.specs.declared.no_answer.NoAnswer.{NoAnswer}
-use Rattle.library.specs.declared.no_answer.NoAnswer.TheVariants.{NotAsked, OutOfMemory}
+use Rattle.libclassck.specs.Files.{AreFiles, AreReads}
+use Rattle.libclassck.specs.Requests.{Asks}
+use Rattle.libclassck.specs.declared.request.Request.{Request}
+use Rattle.libclassck.specs.declared.Outcome.{Outcome}
+use Rattle.libclassck.specs.declared.no_answer.NoAnswer.{NoAnswer}
+use Rattle.libclassck.specs.declared.no_answer.NoAnswer.TheVariants.{NotAsked, OutOfMemory}
 
 -- the text and the status that the program answers to the request, about files with these bytes
 pub record Told (r : Request) (bytes ends text : List ℕ) (status : ℕ) : Type 0 where

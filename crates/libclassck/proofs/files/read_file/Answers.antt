@@ -1,5 +1,5 @@
-use Rattle.library.proofs.ReadFiles.{cut_is_read}
-use Rattle.library.proofs.files.read_file.Goals as goal
+use Rattle.libclassck.proofs.ReadFiles.{cut_is_read}
+use Rattle.libclassck.proofs.files.read_file.Goals as goal
 
 pub returns-in_default : goal.returns-in_default
 returns-in_default c =

@@ -1,7 +1,7 @@
 //! The files of a call.
 ghost use Rattle.std.specs.Prelude.{◌≡◌, ℕ, List, IfOk, MatchOption, map};
 ghost use Rattle.answers.specs.Files.{file_view};
-ghost use Rattle.library.specs.Files.{AreFiles, IsReadOf, AreReads};
+ghost use Rattle.libclassck.specs.Files.{AreFiles, IsReadOf, AreReads};
 
 use classfile::CutShort;
 use file_reads::read_bytes;

@@ -6,7 +6,7 @@ use Rattle.answers.specs.declared.command.Form.{Form}
 use Rattle.answers.specs.declared.command.Form.TheVariants.{Plain, Json}
 use Rattle.answers.specs.declared.command.Command.{Command}
 use Rattle.answers.specs.declared.command.Command.TheVariants.{Check, Show, Verify, Explain, Play, VerifyEach}
-use Rattle.library.specs.declared.request.Request.{Request}
+use Rattle.libclassck.specs.declared.request.Request.{Request}
 
 -- the option of a form, and that of a profile
 abbrev pub json : Form → ℕ

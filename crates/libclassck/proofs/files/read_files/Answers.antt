@@ -1,6 +1,6 @@
 use Rattle.answers.specs.Files.{file_view}
-use Rattle.library.proofs.ReadFiles.{reads_step}
-use Rattle.library.proofs.files.read_files.Goals as goal
+use Rattle.libclassck.proofs.ReadFiles.{reads_step}
+use Rattle.libclassck.proofs.files.read_files.Goals as goal
 
 pub loop-file-preserved : goal.loop-file-preserved
 loop-file-preserved c =

@@ -1,6 +1,6 @@
 /* Calls libclassck about files, once for each of its allocations with that one failing, and once with none that does:
  *
- *   library_memory COMMAND OPTIONS CLASSES FILE..
+ *   libclassck_memory COMMAND OPTIONS CLASSES FILE..
  *
  * Prints how many allocations there are, and how many calls were wrong: that gave neither the whole answer nor want of memory, wrote into the room
  * without an answer, or kept memory. It is linked with --wrap for malloc, realloc and free. */

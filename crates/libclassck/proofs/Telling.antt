@@ -3,13 +3,13 @@ use Rattle.std.proofs.Common.{◌≡◌, ◌∙◌, ℕ, suc, ◌+◌, List, [],
 use Rattle.answers.specs.Answers.{Answered, Says}
 use Rattle.answers.specs.Files.{File}
 use Rattle.answers.specs.declared.command.Command.{Command}
-use Rattle.library.specs.Calls.{Told, NothingAsked, Answers, no_status}
-use Rattle.library.specs.Files.{AreFiles, AreReads, ends_from}
-use Rattle.library.specs.Requests.{Asks}
-use Rattle.library.specs.declared.request.Request.{Request}
-use Rattle.library.specs.declared.Outcome.{Outcome}
-use Rattle.library.specs.declared.no_answer.NoAnswer.{NoAnswer}
-use Rattle.library.specs.declared.no_answer.NoAnswer.TheVariants.{NotAsked, OutOfMemory}
+use Rattle.libclassck.specs.Calls.{Told, NothingAsked, Answers, no_status}
+use Rattle.libclassck.specs.Files.{AreFiles, AreReads, ends_from}
+use Rattle.libclassck.specs.Requests.{Asks}
+use Rattle.libclassck.specs.declared.request.Request.{Request}
+use Rattle.libclassck.specs.declared.Outcome.{Outcome}
+use Rattle.libclassck.specs.declared.no_answer.NoAnswer.{NoAnswer}
+use Rattle.libclassck.specs.declared.no_answer.NoAnswer.TheVariants.{NotAsked, OutOfMemory}
 
 -- there are as many ends as files
 as_many : (start : ℕ) (files : List (List ℕ)) → length (ends_from start files) ≡ length files

@@ -7,7 +7,7 @@ use Rattle.layout.specs.declared.fault.ReadFault.TheVariants.{OutOfMemory}
 use Rattle.classfile.specs.Outline.{OutlineFault}
 use Rattle.file_reads.specs.FileReads.{BeginsWith}
 use Rattle.answers.specs.Files.{File}
-use Rattle.library.specs.Files.{IsReadOf, AreReads}
+use Rattle.libclassck.specs.Files.{IsReadOf, AreReads}
 
 -- one more
 pub reads_more : (files : List (List ℕ)) (reads : List File) (file : List ℕ) (read : File) → AreReads files reads → IsReadOf file read

@@ -1,7 +1,7 @@
 //! Requests: a command, and what goes with it.
 ghost use Rattle.std.specs.Prelude.{◌≡◌, ◌↔◌, ◌+◌, ◌<◌, IsTrue, IfSome, IfNone};
 ghost use Rattle.answers.specs.declared.command.Command.{Command};
-ghost use Rattle.library.specs.Requests.{Asks, Names, MayJudge, json, dynamic};
+ghost use Rattle.libclassck.specs.Requests.{Asks, Names, MayJudge, json, dynamic};
 
 use answers::{Command, Form};
 use classfile::Profile;

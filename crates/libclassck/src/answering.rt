@@ -1,7 +1,7 @@
 //! The text and the status of a call.
 ghost use Rattle.std.specs.Prelude.{◌≡◌, IfOk, IfErr};
-ghost use Rattle.library.specs.Calls.{Told, NothingAsked};
-ghost use Rattle.library.specs.declared.no_answer.NoAnswer.TheVariants.{NotAsked};
+ghost use Rattle.libclassck.specs.Calls.{Told, NothingAsked};
+ghost use Rattle.libclassck.specs.declared.no_answer.NoAnswer.TheVariants.{NotAsked};
 
 use crate::files::{files_of, read_files};
 use crate::no_answer::NoAnswer;
