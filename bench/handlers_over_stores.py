@@ -160,22 +160,37 @@ def of_lengths(lengths, each, stores, first=256):
     return [method.made()], LINES, 0
 
 
-def visited(frames, blocks, stores, entries, come=(b"Y", b"Z"), wanted=b"I", known=(b"I",), refusing=False):
-    """Stores to each block in turn, of two classes in turn; entries that begin there lead in turn to frames, each of which wants another class in all locals.
-    Between them may be entries of handlers that want the class that was stored last, and do not take the next one."""
+# The bytes of a store of a class to any local.
+STORE_SIZE = 5
+
+
+def entered(frames, blocks, stores, entries, come, wanted):
+    """A method with stores to each block in turn, of two classes in turn, and these; entries that begin there lead in turn to frames, each of which wants
+    another class in all locals."""
     constants = Constants()
     types = [class_named(constants, it) for it in come]
-    size = 5
     body = b"".join(ALOAD[i // blocks % 2] + b"\xc4\x3a" + at(16 * (i % blocks) + 2) for i in range(stores))
     method = Covered(constants, types * (8 * blocks), body, 16 * blocks)
     places = [method.add_frame_anew([class_named(constants, wanted)] * (16 * blocks)) for _ in range(frames)]
     for i in range(entries):
-        start = i * stores // entries * size
-        method.cover(places[i % frames], start, start + size)
-    last = [[method.add_frame(with_types({16 * b + 2: it})) for it in types] for b in range(blocks if refusing else 0)]
-    for i in range(stores - 1 if refusing else 0):
-        method.cover(last[i % blocks][i // blocks % 2], (i + 1) * size, (i + 2) * size)
+        start = i * stores // entries * STORE_SIZE
+        method.cover(places[i % frames], start, start + STORE_SIZE)
+    return method, types
+
+
+def visited(frames, blocks, stores, entries, come=(b"Y", b"Z"), wanted=b"I", known=(b"I",)):
+    """The class of such a method, among these known interfaces."""
+    method, _ = entered(frames, blocks, stores, entries, come, wanted)
     return [method.made(), *map(interface, known)], LINES, 0
+
+
+def refusing(frames, blocks, stores, entries):
+    """The class of such a method, with entries of handlers between the stores that want the class that was stored last, and do not take the next one."""
+    method, types = entered(frames, blocks, stores, entries, (b"Y", b"Z"), b"I")
+    last = [[method.add_frame(with_types({16 * block + 2: it})) for it in types] for block in range(blocks)]
+    for i in range(stores - 1):
+        method.cover(last[i % blocks][i // blocks % 2], (i + 1) * STORE_SIZE, (i + 2) * STORE_SIZE)
+    return [method.made(), interface(b"I")], LINES, 0
 
 
 def branched(frames, blocks, stores):
@@ -250,6 +265,6 @@ FILES = {
     "15,000 entries that lead to 100 frames of 50 blocks in turn, over 7,500 stores to each block in turn": lambda: visited(100, 50, 7_500, 15_000),
     "60,000 entries that lead to 300 frames of 40 blocks of Object in turn, over stores of arrays": lambda: visited(300, 40, 7_800, 60_000, (b"[I", b"[[J"), OBJECT, ()),
     "60,000 entries that lead to 300 frames of 40 blocks of arrays of Object in turn, over stores of arrays": lambda: visited(300, 40, 7_800, 60_000, (b"[[I", b"[LK;"), b"[Ljava/lang/Object;", ()),
-    "52,000 entries that lead to 300 frames of 40 blocks in turn, and one between the stores that does not take the next": lambda: visited(300, 40, 7_800, 52_000, refusing=True),
+    "52,000 entries that lead to 300 frames of 40 blocks in turn, and one between the stores that does not take the next": lambda: refusing(300, 40, 7_800, 52_000),
     "3,600 stores to 60 blocks in turn, each before a branch to one of 60 frames in turn": lambda: branched(60, 60, 3_600),
 }

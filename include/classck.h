@@ -63,7 +63,8 @@ typedef struct {
  * outcome        how the call ended
  *
  * No pointer may be null, also where there are no bytes or no room; text and outcome may not overlap with the others.
- * Time and memory are in proportion to length, but for the kinds of files that docs/PERFORMANCE.md names.
+ * Time and memory are in proportion to length, but for the kinds of files that docs/PERFORMANCE.md names, and to the
+ * text: that of explain may be hundreds of times as long as a file that was made for that.
  */
 void classck_answer(const classck_request *request, const uint8_t *bytes, size_t length, const uint32_t *ends,
                     size_t count, uint8_t *text, size_t room, classck_outcome *outcome);

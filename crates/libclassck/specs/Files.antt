@@ -16,7 +16,7 @@ pub record AreFiles (bytes ends : List ℕ) (files : List (List ℕ)) : Type 0 w
   pub whole : bytes ≡ flat_map (λ file. file) files
   pub places : ends ≡ ends_from 0 files
 
--- What the program reads of a file with these bytes: the class that it begins with, and one byte more; or the fault of
+-- The part that the program reads of a file with these bytes: the class that it begins with, and one byte more; or the fault of
 -- its outline, and bytes in front of it.
 abbrev pub IsReadOf : List ℕ → File → Type 0
 IsReadOf bytes file =
