@@ -10,7 +10,7 @@
 #include <string.h>
 #include <time.h>
 
-enum { MOST = 1 << 16, SAMPLES = 512, FILES = 6 };
+enum { MOST = 1 << 16, SAMPLES = 1 << 13, FILES = 6 };
 
 typedef struct { uint8_t *bytes; size_t length; } File;
 
@@ -23,11 +23,19 @@ static uint64_t draw(uint64_t below) {
     return below ? (state * 0x2545F4914F6CDD1DU >> 11) % below : 0;
 }
 
+/* A copy of just so many bytes. */
+static void *exactly(const void *bytes, size_t length) {
+    void *block = malloc(length);
+    if (length) memcpy(block, bytes, length);
+    return block;
+}
+
 static void read_sample(const char *name) {
+    static uint8_t bytes[MOST];
     FILE *file = fopen(name, "rb");
     if (!file || sample_count == SAMPLES) exit(2);
-    uint8_t *bytes = malloc(MOST);
-    samples[sample_count++] = (File){bytes, fread(bytes, 1, MOST, file)};
+    size_t length = fread(bytes, 1, MOST, file);
+    samples[sample_count++] = (File){exactly(bytes, length), length};
     fclose(file);
 }
 
@@ -58,13 +66,6 @@ static size_t put_file(uint8_t *bytes) {
     File it = samples[draw(sample_count)];
     memcpy(bytes, it.bytes, it.length);
     return draw(2) ? damage(bytes, it.length) : it.length;
-}
-
-/* A copy of just so many bytes. */
-static void *exactly(const void *bytes, size_t length) {
-    void *block = malloc(length);
-    if (length) memcpy(block, bytes, length);
-    return block;
 }
 
 /* Calls once and returns the text, as far as it fits into the room. */
@@ -98,10 +99,11 @@ static classck_request draw_request(size_t count) {
     return it;
 }
 
-/* Draws a call and makes it twice. The first sample, which is to be java/lang/Object, is mostly the last of the files. */
+/* Draws a call and makes it twice. The first sample, which is to be java/lang/Object, is mostly the last of the files, of which there are
+ * few, since those of one name are refused. */
 static uint32_t one(uint8_t *bytes) {
     uint32_t ends[FILES];
-    size_t length = 0, count = draw(30) ? 1 + draw(FILES) : 0;
+    size_t length = 0, count = draw(30) ? 1 + draw(draw(4) ? 2 : FILES) : 0;
     for (size_t i = 0; i < count; i++) {
         int is_last = i && i + 1 == count && draw(8);
         if (is_last) memcpy(bytes + length, samples[0].bytes, samples[0].length);

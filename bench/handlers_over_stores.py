@@ -164,14 +164,16 @@ def of_lengths(lengths, each, stores, first=256):
 STORE_SIZE = 5
 
 
-def entered(frames, blocks, stores, entries, come, wanted):
+def entered(frames, blocks, stores, entries, come, wanted, differ=False):
     """A method with stores to each block in turn, of two classes in turn, and these; entries that begin there lead in turn to frames, each of which wants
-    another class in all locals."""
+    another class in all locals, or in all but one, which is another one in each."""
     constants = Constants()
     types = [class_named(constants, it) for it in come]
     body = b"".join(ALOAD[i // blocks % 2] + b"\xc4\x3a" + at(16 * (i % blocks) + 2) for i in range(stores))
     method = Covered(constants, types * (8 * blocks), body, 16 * blocks)
-    places = [method.add_frame_anew([class_named(constants, wanted)] * (16 * blocks)) for _ in range(frames)]
+    all_locals = [class_named(constants, wanted)] * (16 * blocks)
+    but_one = lambda i: all_locals[:i] + [TOP] + all_locals[i + 1:]
+    places = [method.add_frame_anew(but_one(17 * i % len(all_locals)) if differ else all_locals) for i in range(frames)]
     for i in range(entries):
         start = i * stores // entries * STORE_SIZE
         method.cover(places[i % frames], start, start + STORE_SIZE)
@@ -184,9 +186,9 @@ def visited(frames, blocks, stores, entries, come=(b"Y", b"Z"), wanted=b"I", kno
     return [method.made(), *map(interface, known)], LINES, 0
 
 
-def refusing(frames, blocks, stores, entries):
+def refusing(frames, blocks, stores, entries, differ=False):
     """The class of such a method, with entries of handlers between the stores that want the class that was stored last, and do not take the next one."""
-    method, types = entered(frames, blocks, stores, entries, (b"Y", b"Z"), b"I")
+    method, types = entered(frames, blocks, stores, entries, (b"Y", b"Z"), b"I", differ)
     last = [[method.add_frame(with_types({16 * block + 2: it})) for it in types] for block in range(blocks)]
     for i in range(stores - 1):
         method.cover(last[i % blocks][i // blocks % 2], (i + 1) * STORE_SIZE, (i + 2) * STORE_SIZE)
@@ -266,5 +268,6 @@ FILES = {
     "60,000 entries that lead to 300 frames of 40 blocks of Object in turn, over stores of arrays": lambda: visited(300, 40, 7_800, 60_000, (b"[I", b"[[J"), OBJECT, ()),
     "60,000 entries that lead to 300 frames of 40 blocks of arrays of Object in turn, over stores of arrays": lambda: visited(300, 40, 7_800, 60_000, (b"[[I", b"[LK;"), b"[Ljava/lang/Object;", ()),
     "52,000 entries that lead to 300 frames of 40 blocks in turn, and one between the stores that does not take the next": lambda: refusing(300, 40, 7_800, 52_000),
+    "52,000 entries that lead to 300 frames of 40 blocks that all differ, and one between the stores that does not take the next": lambda: refusing(300, 40, 7_800, 52_000, True),
     "3,600 stores to 60 blocks in turn, each before a branch to one of 60 frames in turn": lambda: branched(60, 60, 3_600),
 }

@@ -112,20 +112,22 @@ def branching(types, targets, count=3_600):
     return in_class(STATIC, ONE + b"".join(parts) + RETURN * len(targets), entries)
 
 
-def handled(types, wanted, calls=CALLS):
-    """The calls are under a handler whose frame has these locals."""
-    entries = [frame(len(ONE), types), *[same(4)] * (calls - 1), frame(4, wanted, [TOP])]
-    covered = len(ONE), len(ONE) + len(CALL) * calls
-    return in_class(STATIC, ONE + CALL * calls + RETURN, entries, handlers=[handler(*covered, covered[1])])
+def handled(types, wanted, parts=None, head=ONE):
+    """The parts, which are as many calls if none are named, are under a handler whose frame has these locals."""
+    parts = [CALL] * CALLS if parts is None else parts
+    entries = [frame(len(head), types), *[same(len(it) - 1) for it in parts[:-1]], frame(len(parts[-1]) - 1, wanted, [TOP])]
+    covered = len(head), len(head) + sum(map(len, parts))
+    return in_class(STATIC, head + b"".join(parts) + RETURN, entries, max_locals=len(types), handlers=[handler(*covered, covered[1])])
 
 
-def handled_in_turn(handlers, calls=CALLS):
-    """The calls are under so many handlers, whose frames have K or Top in local 0 in turn."""
-    types = [CLASS] + [FIRST] * (MOST - 1)
-    call = call_on(1) + RETURN
+def handled_in_turn(handlers, bits=1, calls=CALLS):
+    """The calls are under so many handlers, whose frames have K or Top in so many first locals, as counting goes."""
+    types = [CLASS] * bits + [FIRST] * (MOST - bits)
+    call = call_on(bits) + RETURN
     covered = len(ONE), len(ONE) + len(call) * calls
-    entries = [frame(len(ONE), types), *[same(len(call) - 1)] * (calls - 1), frame(len(call) - 1, [], [TOP])]
-    entries += [frame(0, [CLASS] if i % 2 else [], [TOP]) for i in range(1, handlers)]
+    wanted = lambda i: [CLASS if i >> k & 1 else TOP for k in range(bits)]
+    entries = [frame(len(ONE), types), *[same(len(call) - 1)] * (calls - 1), frame(len(call) - 1, wanted(0), [TOP])]
+    entries += [frame(0, wanted(i), [TOP]) for i in range(1, handlers)]
     table = [handler(*covered, covered[1] + i) for i in range(handlers)]
     return in_class(STATIC, ONE + call * calls + RETURN * handlers, entries, handlers=table)
 
@@ -146,14 +148,49 @@ def many_objects(count):
     return made(types, [call_on(i) + RETURN for i in range(count)], head)
 
 
-def in_orders(parts, count=16):
-    """So many objects in each block of as many locals, each time in another order. Each part initializes all, in an order of its own."""
+def orders(parts, count=16):
+    """So many objects in each block of as many locals, each time in another order: the types of the locals, parts that each initialize all, in an
+    order of their own, and the head that makes them."""
     chance = random.Random(1)
     head = (NEW + POP) * count + RETURN
     objects = [b"\x08" + at(i * 4) for i in range(count)]
     types = [it for i in range(MOST // count) for it in (chance.sample(objects, count) if i else objects)]
     calls = [b"".join(call_on(it) for it in chance.sample(range(count), count)) + RETURN for _ in range(parts)]
-    return made(types, calls, head)
+    return types, calls, head
+
+
+def in_orders(parts, count=16, before=b""):
+    """Such parts; each begins with these bytes."""
+    types, calls, head = orders(parts, count)
+    return made(types, [before + it for it in calls], head)
+
+
+def orders_before_branches(parts, count=16):
+    """After each of such parts there is a branch to a frame of classes."""
+    types, calls, head = orders(parts, count)
+    size = len(calls[0]) + 4
+    bodies = [it[:-1] + ICONST_0 + IFEQ + struct.pack(">h", (parts - i) * size - len(it)) + RETURN for i, it in enumerate(calls)]
+    entries = [frame(len(head), types), *[same(size - 1)] * (parts - 1), frame(size - 1, [CLASS] * len(types))]
+    return in_class(STATIC, head + b"".join(bodies) + RETURN, entries, max_locals=len(types))
+
+
+def sets_before_branches(parts, count=16):
+    """As many objects in each block of as many locals; each part initializes the first one and others, and branches to a frame that wants a class
+    where that one was, and Top elsewhere."""
+    chance = random.Random(2)
+    types, _, head = orders(1, count)
+    wanted = [CLASS if it == types[0] else TOP for it in types]
+    calls = [b"".join(call_on(i) for i in range(count) if i == 0 or chance.random() < 0.5) + RETURN for _ in range(parts)]
+    sizes = [len(it) + 4 for it in calls]
+    bodies = [it[:-1] + ICONST_0 + IFEQ + struct.pack(">h", sum(sizes[i:]) - len(it)) + RETURN for i, it in enumerate(calls)]
+    entries = [frame(len(head), types), *[same(it - 1) for it in sizes[:-1]], frame(sizes[-1] - 1, wanted)]
+    return in_class(STATIC, head + b"".join(bodies) + RETURN, entries, max_locals=len(types))
+
+
+def handled_orders(parts, count=16):
+    """Such parts are under a handler without locals."""
+    types, calls, head = orders(parts, count)
+    return handled(types, [], calls, head)
 
 
 FILES = {
@@ -184,8 +221,23 @@ FILES = {
     "4,000 calls of a constructor on an object of 65,535 locals, under a handler without locals": lambda: handled([FIRST] * MOST, []),
     "2,500 calls of a constructor on an object of 65,535 locals, each between branches to a frame of as many": between_branches,
     "4,000 calls of a constructor on an object of 65,534 locals, under 1,000 handlers that differ in the other one": lambda: handled_in_turn(1_000),
+    "4,000 calls of a constructor on an object of 65,532 locals, under 1,000 handlers that differ in the other three": lambda: handled_in_turn(1_000, 3),
+    "4,000 calls of a constructor on an object of 65,525 locals, under 1,000 handlers that differ in the other ten": lambda: handled_in_turn(1_000, 10),
     "131 objects of `new` in 500 of 65,535 locals each, all brought back after each call": lambda: many_objects(131),
     "4,000 objects of `new` in 16 of 65,535 locals each, all brought back after each call": lambda: many_objects(4_000),
+    **{f"13,000 calls of a constructor on an object of {n:,} locals, under a handler without locals": lambda n=n: handled([FIRST] * n, [], [CALL] * 13_000) for n in (17, 33, 300, 4_000)},
+    "13,000 calls of a constructor on an object of 65,535 locals, under a handler without locals": lambda: handled([FIRST] * MOST, [], [CALL] * 13_000),
+    "4,000 calls of a constructor on an object of every other one of 65,535 locals, under a handler of the others": lambda: handled(every(2, FIRST), every(2, TOP)),
+    "4,000 pairs of calls of a constructor on two objects, which 65,535 locals hold in turn, under a handler": lambda: handled([FIRST, SECOND] * 32_767, [], [call_on(0) + call_on(1) + RETURN] * CALLS, TWO),
+    "8,000 calls of a constructor on two objects in turn, which 65,535 locals hold in turn, under a handler": lambda: handled([FIRST, SECOND] * 32_767, [], [call_on(0) + RETURN, call_on(1) + RETURN] * CALLS, TWO),
+    "4,000 calls of a constructor on an object of 65,535 locals, each after a store of an int, under a handler": lambda: handled([FIRST] * MOST, [], stored_before(ICONST_0 + ISTORE, CALLS)),
+    "16 objects of `new` in each block of 16 of 65,535 locals, initialized in 740 orders, each after a store": lambda: in_orders(740, 16, ICONST_0 + ISTORE + at(300)),
+    "17 objects of `new` in each 17 of 65,535 locals, initialized in 750 orders": lambda: in_orders(750, 17),
+    "33 objects of `new` in each 33 of 65,535 locals, initialized in 380 orders": lambda: in_orders(380, 33),
+    "255 objects of `new` in each 255 of 65,535 locals, initialized in 45 orders": lambda: in_orders(45, 255),
+    "16 objects of `new` in each block of 16 of 65,535 locals, initialized in 380 orders, each before a branch": lambda: orders_before_branches(380),
+    "16 objects of `new` in each block of 16 of 65,535 locals, of which 600 sets are initialized, each before a branch": lambda: sets_before_branches(600),
+    "16 objects of `new` in each block of 16 of 65,535 locals, initialized in 800 orders, under a handler": lambda: handled_orders(800),
     "16 objects of `new` in each block of 16 of 65,535 locals, initialized in 800 orders": lambda: in_orders(800),
     "5 objects of `new` in each 5 of 65,535 locals, initialized in 2,500 orders": lambda: in_orders(2_500, 5),
 }

@@ -10,10 +10,10 @@ from output import escaped
 class Answers:
     """The answers on the classes of jars, each as text and status, by their files."""
 
-    def __init__(self, jars, folders, known, dynamic):
+    def __init__(self, jars, folders, known, profile):
         self.paths = class_paths(jars, [known] if known else folders)
         self.of_file = {file: (name, path) for path in self.paths for name, file in path.own.items()}
-        self.dynamic, self.each, self.found = dynamic, EachVerifier(["--dynamic"] if dynamic else [], known), {}
+        self.profile, self.each, self.found = profile, EachVerifier(profile.words(), known), {}
 
     def judge(self):
         """Has one process for each class path judge the classes."""
@@ -25,7 +25,7 @@ class Answers:
         # Loaded where it is needed: that takes as long as unpacking hundreds of classes.
         import concurrent.futures
 
-        verifier = Verifier(self.dynamic)
+        verifier = Verifier(self.profile, judged=self.of_file)
         with concurrent.futures.ThreadPoolExecutor(os.cpu_count()) as threads:
             calls = {file: threads.submit(verifier.judge, file, path, name) for file, (name, path) in self.of_file.items()}
             try:
@@ -41,7 +41,7 @@ class Answers:
     def explain(self, files):
         """Puts the explanations into the answers on these files."""
         self.each.read_all(files)
-        verifier = Verifier(self.dynamic, explains=True, told=self.each.head)
+        verifier = Verifier(self.profile, explains=True, told=self.each.head, judged=self.of_file)
         for file in files:
             name, path = self.of_file[file]
             self.found[file] = verifier.judge(file, path, name)

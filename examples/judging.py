@@ -31,15 +31,20 @@ MOST_OUTPUT = 1 << 28
 ROUNDS = 8
 # The limit of the stack at which Linux takes the longest lines that it takes at all, 6 MB.
 STACK = 1 << 25
-HEAD = re.compile(r"class (.*) major \d+ minor \d+ flags ([0-9a-f]{4})")
+HEAD = re.compile(r"class (?P<name>.*) major (?P<major>\d+) minor (?P<minor>\d+) flags (?P<flags>[0-9a-f]{4})")
 INTERFACE = 0x0200
 ARRAY_INTERFACES = ("java/lang/Cloneable", "java/io/Serializable")
 MISSING = re.compile(r" refused 77 at \d+ missing (.*)$")
 REFUSED = re.compile(r"method .* refused (\d+) at \d+(?: missing .*| fault \d+)?$")
 WHOLE = re.compile(r"(?:class|hierarchy) refused (\d+)\b")
+VERSION = re.compile(r"class refused 11 (\d+)\.\d+")
 SUPER_MISSING, NOWHERE = "hierarchy refused 42 ", " is in no place"
 # The refusals that say that something was not judged: a version that is not judged, a class that is missing, an instruction without a rule.
 NOT_JUDGED = (11, 42, 60, 77)
+# The least major version of a class that is judged by a release, and what is added to the number of a release for the greatest.
+LEAST, OFFSET = 50, 44
+# The numbers of releases that the program knows.
+RELEASES = range(7, 28)
 # The status of answers in which nothing else is refused.
 WITHOUT_VERDICT = 3
 
@@ -137,15 +142,28 @@ class Head(collections.namedtuple("Head", "name above is_interface refusal")):
         return self.name in ARRAY_INTERFACES and not self.is_interface
 
 
-class Verifier:
-    """Calls the program, with --dynamic and for explanations where these are asked for, and keeps what `show` said of each file.
+class Profile(collections.namedtuple("Profile", "dynamic release", defaults=(False, None))):
+    """How classes are judged: with --dynamic, and with --release and this number, or without them."""
 
-    `told` may know that already of a file, from another process.
+    def versions(self):
+        """The words by which the program knows the versions of class files."""
+        return ["--release", str(self.release)] if self.release else []
+
+    def words(self):
+        """The words of a command that judges."""
+        return [*(["--dynamic"] if self.dynamic else []), *self.versions()]
+
+
+class Verifier:
+    """Calls the program, by a profile and for explanations where these are asked for, and keeps what `show` said of each file.
+
+    `told` may know that already of a file, from another process. The files of `judged` have classes that are judged: one that is too old for that is
+    refused, as by `verify-each`, where other files of such classes are known ones.
     """
 
-    def __init__(self, dynamic=False, explains=False, told=lambda _: None):
-        self.heads, self.lock, self.explains, self.told = {}, threading.Lock(), explains, told
-        self.flags = ["--dynamic"] if dynamic else []
+    def __init__(self, profile=Profile(), explains=False, told=lambda _: None, judged=()):
+        self.heads, self.lock, self.explains, self.told, self.judged = {}, threading.Lock(), explains, told, judged
+        self.flags, self.versions = profile.words(), profile.versions()
 
     def head(self, file):
         """The class in this file, as `show` has it."""
@@ -153,16 +171,23 @@ class Verifier:
             known = self.heads.get(file) or self.told(file)
         if known:
             return known
-        process = begin(["show", "--", file], subprocess.DEVNULL)
+        process = begin(["show", *self.versions, "--", file], subprocess.DEVNULL)
         with process.stdout as out:
             first, second = (out.readline().decode().rstrip("\n") for _ in range(2))
         process.wait()
-        it = HEAD.fullmatch(first)
-        above = unescaped(second[6:]) if second not in ("", "super none") else None
-        found = Head(unescaped(it[1]), above, bool(int(it[2], 16) & INTERFACE), "") if it else Head(None, None, False, first)
+        found = self.head_of(file, HEAD.fullmatch(first), first, second)
         with self.lock:
             self.heads[file] = found
         return found
+
+    def head_of(self, file, it, first, second):
+        """The class in this file by the first two lines of `show`, of which the first is of a class if it matches."""
+        if not it:
+            return Head(None, None, False, first)
+        if self.versions and int(it["major"]) < LEAST and file in self.judged:
+            return Head(None, None, False, f"refused 11 {it['major']}.{it['minor']}")
+        above = unescaped(second[6:]) if second not in ("", "super none") else None
+        return Head(unescaped(it["name"]), above, bool(int(it["flags"], 16) & INTERFACE), "")
 
     def chain(self, wanted, path, seen):
         """The files of the class of this name and of those above it, up to one of these that were seen; and why a class loader does not find all."""
@@ -212,10 +237,12 @@ class Verifier:
 
 
 class Count:
-    """Counts of the methods and classes by their answers. `needs` has the class that is needed for one that a place has and that is left out."""
+    """Counts of the methods and classes by their answers. `needs` has the class that is needed for one that a place has and that is left out, and
+    `release` is the number of the release whose versions are read.
+    """
 
-    def __init__(self, needs=None):
-        self.needs = needs or {}
+    def __init__(self, needs=None, release=None):
+        self.needs, self.release, self.versions = needs or {}, release, collections.Counter()
         self.verified = self.no_code = self.classes = self.whole = self.status = 0
         self.refused, self.methods_left, self.classes_left, self.needed = (collections.Counter() for _ in range(4))
 
@@ -246,6 +273,8 @@ class Count:
         number = int((method or whole or [0, 0])[1])
         if number in NOT_JUDGED:
             (self.methods_left if method else self.classes_left)[number] += 1
+            version = VERSION.fullmatch(line)
+            self.versions.update([int(version[1])] if version else [])
             lacking = lacking_in(line)
             names = [lacking] if lacking else map(escaped, missing_in([line])) if number == 77 else []
             self.needed.update(self.needs.get(it, it) for it in names)
@@ -253,6 +282,14 @@ class Count:
             self.refused[number] += 1
         else:
             self.whole += 1
+
+    def old_and_new(self):
+        """With a release, a line about the classes that are too old to be judged, and one about those that are newer than it."""
+        old, new = ({it: n for it, n in self.versions.items() if (it < LEAST) == is_old} for is_old in (True, False))
+        new = {it: n for it, n in new.items() if it > (self.release or 0) + OFFSET}
+        lines = [f"{sum(old.values())} classes have versions below {LEAST}, of which none is judged"] if old else []
+        lines += [f"{sum(new.values())} classes have versions above {self.release + OFFSET}: --release {max(new) - OFFSET} takes them"] if self.release and new else []
+        return lines if self.release else []
 
     def __str__(self):
         numbers = "".join(f", {self.refused[it]} refused {it}" for it in sorted(self.refused))

@@ -12,8 +12,8 @@ from output import Refused, escaped, unescaped
 OBJECT = "java/lang/Object"
 LEFT_OUT, WRONG_INTERFACE = "class refused 80", "hierarchy refused 44 "
 NO_OBJECT, TOO_MANY = "hierarchy refused 43\n", "hierarchy refused 45\n"
-# The class java/lang/Object without members, in version 52: where no place has it, `verify-each` says nothing of a class unless it is given this one.
-STAND_IN = b"\xca\xfe\xba\xbe\0\0\0\x34\0\3\7\0\2\1\0\x10java/lang/Object\0\x21\0\1" + bytes(10)
+# The class java/lang/Object without members, in version 51: where no place has it, `verify-each` says nothing of a class unless it is given this one.
+STAND_IN = b"\xca\xfe\xba\xbe\0\0\0\x33\0\3\7\0\2\1\0\x10java/lang/Object\0\x21\0\1" + bytes(10)
 
 
 class EachVerifier:

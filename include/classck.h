@@ -26,8 +26,9 @@ enum {
 
 /* The options, to be added. */
 enum {
-    CLASSCK_JSON = 1,   /* of check, verify and explain: objects of JSON, each on a line, in place of words */
-    CLASSCK_DYNAMIC = 2 /* of verify, explain, play and verify-each: judge invokedynamic and dynamic constants too */
+    CLASSCK_JSON = 1,     /* of check, verify and explain: objects of JSON, each on a line, in place of words */
+    CLASSCK_DYNAMIC = 2,  /* of verify, explain, play and verify-each: judge invokedynamic and dynamic constants too */
+    CLASSCK_RELEASE = 256 /* times N, of 7 to 27, and without CLASSCK_DYNAMIC: as Java SE N does */
 };
 
 /* The statuses. */
@@ -35,7 +36,7 @@ enum {
     CLASSCK_OK = 0,       /* every file and method was accepted */
     CLASSCK_REFUSED = 1,  /* something was refused: the text says what, with its number */
     CLASSCK_NO_CALL = 2,  /* the command has not these options, may not judge so many files, or the ends are wrong */
-    CLASSCK_NO_MEMORY = 3 /* memory ran out */
+    CLASSCK_NO_MEMORY = 3 /* memory ran out, or the text has over 64 MiB more than the room */
 };
 
 typedef struct {
@@ -63,8 +64,9 @@ typedef struct {
  * outcome        how the call ended
  *
  * No pointer may be null, also where there are no bytes or no room; text and outcome may not overlap with the others.
- * Time and memory are in proportion to length, but for the kinds of files that docs/PERFORMANCE.md names, and to the
- * text: that of explain may be hundreds of times as long as a file that was made for that.
+ * Time and memory are in proportion to length, but for the kinds of files that docs/PERFORMANCE.md names. A text may be
+ * many thousand times as long as a file that was made for that: 4 GB for 0.26 MB. Time and memory are also in
+ * proportion to the text, but to no more of it than 64 MiB beyond the room.
  */
 void classck_answer(const classck_request *request, const uint8_t *bytes, size_t length, const uint32_t *ends,
                     size_t count, uint8_t *text, size_t room, classck_outcome *outcome);

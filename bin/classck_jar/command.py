@@ -8,7 +8,7 @@ import tempfile
 from folders import Known
 from jar_answers import Answers
 from jars import MOST_CLASSES, in_memory
-from judging import begin_build, end_build
+from judging import RELEASES, Profile, begin_build, end_build
 from output import Parser, Refused, escaped
 
 from classck_jar import class_path, inputs, jdk, policy, reports
@@ -42,6 +42,7 @@ def arguments(usage):
     for it in ("--classpath", "--absent"):
         parser.add_argument(it, action="append", default=[])
     parser.add_argument("--format", choices=reports.FORMATS, default="text")
+    parser.add_argument("--release", metavar="N", type=int, choices=RELEASES)
     parser.add_argument("--most-bytes", type=bytes_of, default=MOST_CLASSES)
     parser.add_argument("judged", metavar="JAR|FOLDER|-", nargs="+")
     given = parser.parse_args()
@@ -88,7 +89,7 @@ def known_of(given, room, progress):
     return Known(places)
 
 
-def judge(given, is_dynamic, room, progress):
+def judge(given, profile, room, progress):
     """The verdicts on all classes, and what is to be told beside."""
     build = begin_build()
     try:
@@ -98,7 +99,7 @@ def judge(given, is_dynamic, room, progress):
     finally:
         end_build(build)
     progress.step(f"judging {sum(len(it.entries) for it in judged)} classes among {len(known.files)} known ones")
-    answers = Answers(judged, [], known, is_dynamic)
+    answers = Answers(judged, [], known, profile)
     answers.judge()
     # Found in the answers as they are before explanations stand in them.
     needs = answers.needs()
@@ -133,7 +134,7 @@ def main(usage):
     progress, chosen = Progress(given.quiet), policy_of(given)
     with contextlib.ExitStack() as room:
         room.callback(progress.done)
-        verdicts, told = judge(given, given.dynamic or chosen.dynamic, room, progress)
+        verdicts, told = judge(given, Profile(given.dynamic or chosen.dynamic, given.release), room, progress)
         chosen.apply(verdicts, given.absent)
         if given.baseline:
             policy.write(given.policy, chosen.with_baseline(verdicts))

@@ -75,8 +75,8 @@ NUMBERS = {
 }
 # the attributes that are not numbers alone
 OTHERS = {
-    "Code": ("methods", 51, "yes", "max_stack, max_locals, code, exception_table, attributes"),
-    "StackMapTable": ("Code", 51, "yes", "its body, which `read_map` reads"),
+    "Code": ("methods", 45, "yes", "max_stack, max_locals, code, exception_table, attributes"),
+    "StackMapTable": ("Code", 50, "yes", "its body, which `read_map` reads"),
     "Record": ("classes", 60, "yes", "a count; Utf8, Utf8, attributes of the component"),
 }
 LISTED = re.compile(r"static (\w+)_LAYOUTS: \[AttributeLayout<'static>; \d+\] = attributes! \{(.*?)\n\};", re.S)

@@ -9,19 +9,19 @@ numbers of a row, of which a count says how many there are.
 """
 
 ROWS = """
-ConstantValue       field               51  once   v
-Exceptions          method              51  once   *c
-SourceFile          class               51  once   u
-InnerClasses        class               51  once   *cCUn
+ConstantValue       field               45  once   v
+Exceptions          method              45  once   *c
+SourceFile          class               45  once   u
+InnerClasses        class               45  once   *cCUn
 NestHost            class               55  once   c
 NestMembers         class               55  once   *c
 PermittedSubclasses class               61  once   *c
-Signature           class,field,method  51  once   u
-Signature           component           51  once   u
-Deprecated          class,field,method  51  often
-Synthetic           class,field,method  51  often
-LineNumberTable     code                51  often  *nn
-LocalVariableTable  code                51  often  *nnuun
+Signature           class,field,method  49  once   u
+Signature           component           49  once   u
+Deprecated          class,field,method  45  often
+Synthetic           class,field,method  45  often
+LineNumberTable     code                45  often  *nn
+LocalVariableTable  code                45  often  *nnuun
 """
 
 

@@ -4,7 +4,14 @@ import itertools
 
 COMMANDS = {it: number for number, it in enumerate(("check", "show", "verify", "explain", "play", "verify-each"), 1)}
 OPTIONS = {"--json": 1, "--dynamic": 2}
+RELEASE = 256
 UNTOUCHED = 0xA5
+
+
+def options_of(words):
+    """The sum of the options that these words are."""
+    words = iter(words)
+    return sum(RELEASE * int(next(words)) if it == "--release" else OPTIONS[it] for it in words)
 
 
 class Request(ctypes.Structure):
@@ -35,7 +42,7 @@ class Library:
         """The text and the status that answer the words of a command, with its options, about files."""
         everything = [*files, *known]
         classes = {"play": len(everything), "verify-each": len(files)}.get(words[0], 1)
-        request = Request(COMMANDS[words[0]], sum(OPTIONS[it] for it in words[1:]), classes, 0x0123456789ABCDEF)
+        request = Request(COMMANDS[words[0]], options_of(words[1:]), classes, 0x0123456789ABCDEF)
         data, ends = b"".join(everything), list(itertools.accumulate(map(len, everything)))
         outcome, room = Outcome(77, 0), 4096
         while True:

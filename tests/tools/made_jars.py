@@ -13,6 +13,7 @@ BAD = with_code(code_of("pop; return")).data()
 RULELESS = with_code(code_of("jsr 3; return")).data()
 CUT = FINE[:-1]
 NEWER = FINE[:6] + b"\0\x3e" + FINE[8:]
+OLDER = FINE[:6] + b"\0\x30" + FINE[8:]
 
 
 def below(name, above):

@@ -1,9 +1,9 @@
 -- A command has one answer.
-use Rattle.std.proofs.Common.{◌≡◌, ℕ, List, [], ◌∷◌, take, drop, inl, inr, sym, ap, subst, ◌∙◌}
+use Rattle.std.proofs.Common.{◌≡◌, ℕ, List, [], ◌∷◌, map, take, drop, inl, inr, sym, ap, subst, ◌∙◌}
 use Rattle.classfile.specs.Values.{Class}
 use Rattle.answers.specs.Answers.{FileSays, CheckTells, ShowTells}
 use Rattle.verify.specs.Files.{Read}
-use Rattle.answers.specs.Files.{reads_of, refusal_status}
+use Rattle.answers.specs.Files.{judged_file, known_file, reads_of, refusal_status}
 use Rattle.answers.specs.Texts.{refusal_line}
 use Rattle.answers.specs.Laws.{OneAnswer}
 use Rattle.answers.specs.declared.command.Command.TheVariants.{Check, Show, Verify, Explain, Play, VerifyEach}
@@ -34,10 +34,10 @@ one_show c text other status next p q = (p.0 ∙ sym q.0, p.1 ∙ sym q.1)
 
 pub same_answer : Laws → OneAnswer
 same_answer laws command [] text other status next p q = (p.0 ∙ sym q.0, p.1 ∙ sym q.1)
-same_answer laws (Check form) (file ∷ others) text other status next p q = one_said laws form (CheckTells form) (one_check form) file.read text other status next p q
-same_answer laws Show (file ∷ others) text other status next p q = one_said laws Plain ShowTells one_show file.read text other status next p q
-same_answer laws (Verify form profile) (file ∷ known) text other status next p q = one_verify laws (Told form) profile file known text other status next p q
-same_answer laws (Explain form profile) (file ∷ known) text other status next p q = one_verify laws (Explained form) profile file known text other status next p q
-same_answer laws (Play profile) (file ∷ others) text other status next p q = one_play laws profile (reads_of (file ∷ others)) text other status next p q
+same_answer laws (Check form profile) (file ∷ others) text other status next p q = one_said laws form (CheckTells form) (one_check form) (known_file profile file).read text other status next p q
+same_answer laws (Show profile) (file ∷ others) text other status next p q = one_said laws Plain ShowTells one_show (known_file profile file).read text other status next p q
+same_answer laws (Verify form profile) (file ∷ known) text other status next p q = one_verify laws (Told form) profile (judged_file profile file) (map (known_file profile) known) text other status next p q
+same_answer laws (Explain form profile) (file ∷ known) text other status next p q = one_verify laws (Explained form) profile (judged_file profile file) (map (known_file profile) known) text other status next p q
+same_answer laws (Play profile) (file ∷ others) text other status next p q = one_play laws profile (reads_of (map (judged_file profile) (file ∷ others))) text other status next p q
 same_answer laws (VerifyEach profile classes) (file ∷ others) text other status next p q =
-    one_each laws profile (take classes (reads_of (file ∷ others))) (drop classes (reads_of (file ∷ others))) text other status next p q
+    one_each laws profile (reads_of (map (judged_file profile) (take classes (file ∷ others)))) (reads_of (map (known_file profile) (drop classes (file ∷ others)))) text other status next p q

@@ -26,16 +26,16 @@ pub record Laws : Type 0 where
 -- a file is one class
 pub one_formed : Laws → (read : Read) (c d : Class) → IsFormed read c → IsFormed read d → c ≡ d
 one_formed laws (Err e) c d p q = absurd p
-one_formed laws (Ok bytes) c d p q = laws.one_class bytes c d p.0 q.0
+one_formed laws (Ok file) c d p q = laws.one_class file.versions file.bytes c d p.0 q.0
 
 -- or it is refused
 pub not_refused : Laws → (read : Read) (c : Class) (r : FileFault) → IsFormed read c → IsRefused read r → ⊥
 not_refused laws (Err e) c r p q = p
-not_refused laws (Ok bytes) c OutOfMemory p q = q
-not_refused laws (Ok bytes) c (Unread e) p q = q
-not_refused laws (Ok bytes) c (NoClass e) p q = laws.not_both bytes c e p.0 q
-not_refused laws (Ok bytes) c (Malformed rule place) p (d, is, fault) =
-    laws.not_formed d rule place (subst WellFormed (laws.one_class bytes c d p.0 is) p.1) fault
+not_refused laws (Ok file) c OutOfMemory p q = q
+not_refused laws (Ok file) c (Unread e) p q = q
+not_refused laws (Ok file) c (NoClass e) p q = laws.not_both file.versions file.bytes c e p.0 q
+not_refused laws (Ok file) c (Malformed rule place) p (d, is, fault) =
+    laws.not_formed d rule place (subst WellFormed (laws.one_class file.versions file.bytes c d p.0 is) p.1) fault
 
 -- for one reason
 pub one_refusal : Laws → (read : Read) (r s : FileFault) → IsRefused read r → IsRefused read s → r ≡ s
@@ -46,15 +46,15 @@ one_refusal laws (Err e) (Unread f) (NoClass g) p q = absurd q
 one_refusal laws (Err e) (Unread f) (Malformed rule place) p q = absurd q
 one_refusal laws (Err e) (NoClass f) s p q = absurd p
 one_refusal laws (Err e) (Malformed rule place) s p q = absurd p
-one_refusal laws (Ok bytes) OutOfMemory s p q = absurd p
-one_refusal laws (Ok bytes) (Unread f) s p q = absurd p
-one_refusal laws (Ok bytes) (NoClass f) OutOfMemory p q = absurd q
-one_refusal laws (Ok bytes) (NoClass f) (Unread g) p q = absurd q
-one_refusal laws (Ok bytes) (NoClass f) (NoClass g) p q = ap NoClass (laws.one_fault bytes f g p q)
-one_refusal laws (Ok bytes) (NoClass f) (Malformed rule place) p (c, is, fault) = absurd (laws.not_both bytes c f is p)
-one_refusal laws (Ok bytes) (Malformed rule place) OutOfMemory (c, is, fault) q = absurd q
-one_refusal laws (Ok bytes) (Malformed rule place) (Unread g) p q = absurd q
-one_refusal laws (Ok bytes) (Malformed rule place) (NoClass g) (c, is, fault) q = absurd (laws.not_both bytes c g is q)
-one_refusal laws (Ok bytes) (Malformed rule place) (Malformed also there) (c, is, fault) (d, are, other) =
-    let same = laws.one_first c rule also place there fault (subst (λ x. IsFirstFault x also there) (laws.one_class bytes d c are is) other) in
+one_refusal laws (Ok file) OutOfMemory s p q = absurd p
+one_refusal laws (Ok file) (Unread f) s p q = absurd p
+one_refusal laws (Ok file) (NoClass f) OutOfMemory p q = absurd q
+one_refusal laws (Ok file) (NoClass f) (Unread g) p q = absurd q
+one_refusal laws (Ok file) (NoClass f) (NoClass g) p q = ap NoClass (laws.one_fault file.versions file.bytes f g p q)
+one_refusal laws (Ok file) (NoClass f) (Malformed rule place) p (c, is, fault) = absurd (laws.not_both file.versions file.bytes c f is p)
+one_refusal laws (Ok file) (Malformed rule place) OutOfMemory (c, is, fault) q = absurd q
+one_refusal laws (Ok file) (Malformed rule place) (Unread g) p q = absurd q
+one_refusal laws (Ok file) (Malformed rule place) (NoClass g) (c, is, fault) q = absurd (laws.not_both file.versions file.bytes c g is q)
+one_refusal laws (Ok file) (Malformed rule place) (Malformed also there) (c, is, fault) (d, are, other) =
+    let same = laws.one_first c rule also place there fault (subst (λ x. IsFirstFault x also there) (laws.one_class file.versions file.bytes d c are is) other) in
     ap (λ x. Malformed x place) same.0 ∙ ap (Malformed also) same.1

@@ -33,7 +33,7 @@ use Rattle.answers.specs.declared.command.Form.TheVariants.{Plain, Json}
 use Rattle.answers.specs.declared.manner.Manner.{Manner}
 use Rattle.answers.specs.declared.manner.Manner.TheVariants.{Told, Explained}
 use Rattle.printing.specs.ClassParts.{part_lines, attribute_line, part_fields, attribute_fields}
-use Rattle.answers.specs.Sentences.{sentence, fault_sentence, sentence_line, fault_line, reason_lines, sentence_fields, reason_sentence_fields, file_fault_number}
+use Rattle.answers.specs.Sentences.{sentence, fault_sentence, sentence_line, fault_line, reason_lines, sentence_fields, reason_sentence_fields, file_sentence_line, file_sentence_fields}
 use Rattle.answers.specs.Explanations.{code_part, code_fields, explanation, explanation_object, explanations}
 use Rattle.verify.specs.declared.files.FileFault.{FileFault}
 use Rattle.verify.specs.declared.files.FileFault.TheVariants as files
@@ -293,7 +293,7 @@ module _ (laws : Laws) where
   -- ---- files that are refused
 
   one_decoded : (read : Read) (c d : Class) → IsDecoded read c → IsDecoded read d → c ≡ d
-  one_decoded (Ok bytes) c d p q = laws.one_class bytes c d p q
+  one_decoded (Ok file) c d p q = laws.one_class file.versions file.bytes c d p q
   one_decoded (Err fault) c d p q = absurd p
 
   one_part : (file : File) (r : FileFault) (text other : List ℕ) → IsPart file r text → IsPart file r other → text ≡ other
@@ -314,9 +314,9 @@ module _ (laws : Laws) where
       → IsTold manner file r line object text → IsTold manner file r line object other → text ≡ other
   one_told (Told form) file r line object text other p q = p ∙ sym q
   one_told (Explained Json) file r line object text other (a, p, e) (b, q, f) =
-      e ∙ ap (λ x. object (fields_then (sentence_fields (file_fault_number r)) (fields_behind x))) (one_part_fields file r a b p q) ∙ sym f
+      e ∙ ap (λ x. object (fields_then (file_sentence_fields file.versions r) (fields_behind x))) (one_part_fields file r a b p q) ∙ sym f
   one_told (Explained Plain) file r line object text other (a, p, e) (b, q, f) =
-      e ∙ ap (λ x. line Plain ++ (sentence_line (file_fault_number r) ++ x)) (one_part file r a b p q) ∙ sym f
+      e ∙ ap (λ x. line Plain ++ (file_sentence_line file.versions r ++ x)) (one_part file r a b p q) ∙ sym f
 
   -- refusals of one file are the same
   same_known : (manner : Manner) (known : List File) (i j : ℕ) (r s : FileFault) (f g : File) (text other : List ℕ) → (i ≡ j) × (r ≡ s)

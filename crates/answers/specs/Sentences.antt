@@ -2,6 +2,12 @@
 use Rattle.std.specs.Prelude.{ℕ, nat_eq, List, [], ◌∷◌, ◌++◌, codes, decimal, find}
 use Rattle.std.specs.Option.{option_map_or}
 use Rattle.layout.specs.Refusals.{read_fault_number}
+use Rattle.layout.specs.declared.fault.ReadFault.{ReadFault}
+use Rattle.layout.specs.declared.fault.ReadFault.TheVariants.{BadVersion}
+use Rattle.classfile.specs.declared.form_fault.FormRule.{FormRule}
+use Rattle.classfile.specs.declared.form_fault.FormRule.TheVariants.{WrongKind}
+use Rattle.classfile.specs.declared.versions.Versions.{Versions}
+use Rattle.classfile.specs.declared.versions.Versions.TheVariants.{Java7To17, Release}
 use Rattle.classfile.specs.Conditions.{rule_number}
 use Rattle.rules.specs.declared.reason.Reason.{Reason}
 use Rattle.rules.specs.declared.reason.Reason.TheVariants.{BadStackMap, BadCode}
@@ -94,8 +100,35 @@ fault_sentences =
 abbrev pub text_of : List (ℕ × List ℕ) → ℕ → List ℕ
 text_of rows n = option_map_or (λ row. row.1) (find (λ row. nat_eq row.0 n) rows) []
 
+-- the number of the refusal of a file
+abbrev pub file_fault_number : FileFault → ℕ
+file_fault_number OutOfMemory = 1
+file_fault_number (Unread fault) = read_fault_number fault
+file_fault_number (NoClass fault) = read_fault_number fault
+file_fault_number (Malformed rule place) = rule_number rule
+
 abbrev pub sentence : ℕ → List ℕ
 sentence n = text_of sentences n
+
+-- with a release, what is said of a version, and of a constant that stands in a class of a version
+abbrev pub version_sentence : ReadFault → List ℕ
+version_sentence (BadVersion major minor) = codes "BadVersion: the release takes no class of this version here"
+version_sentence e = sentence (read_fault_number e)
+
+abbrev pub kind_sentence : FormRule → List ℕ
+kind_sentence WrongKind = codes "WrongKind: an index leads to another kind of constant than it should, or a constant stands in a class of a version that has none of its kind"
+kind_sentence rule = sentence (rule_number rule)
+
+abbrev pub release_sentence : FileFault → List ℕ
+release_sentence OutOfMemory = sentence 1
+release_sentence (Unread e) = sentence (read_fault_number e)
+release_sentence (NoClass e) = version_sentence e
+release_sentence (Malformed rule place) = kind_sentence rule
+
+-- the sentence on a file that is refused, whose class may have these versions
+abbrev pub file_sentence : Versions → FileFault → List ℕ
+file_sentence Java7To17 r = sentence (file_fault_number r)
+file_sentence (Release least number) r = release_sentence r
 
 abbrev pub fault_sentence : ℕ → List ℕ
 fault_sentence n = text_of fault_sentences n
@@ -107,6 +140,9 @@ numbered_line n text = codes "  " ++ (decimal n ++ (codes " " ++ (text ++ codes 
 
 abbrev pub sentence_line : ℕ → List ℕ
 sentence_line n = numbered_line n (sentence n)
+
+abbrev pub file_sentence_line : Versions → FileFault → List ℕ
+file_sentence_line versions r = numbered_line (file_fault_number r) (file_sentence versions r)
 
 abbrev pub fault_line : ℕ → List ℕ
 fault_line n = numbered_line n (fault_sentence n)
@@ -126,6 +162,9 @@ reason_lines why = sentence_line (reason_number why) ++ fault_lines why
 abbrev pub sentence_fields : ℕ → List Field
 sentence_fields n = (codes "sentence", word (sentence n)) ∷ []
 
+abbrev pub file_sentence_fields : Versions → FileFault → List Field
+file_sentence_fields versions r = (codes "sentence", word (file_sentence versions r)) ∷ []
+
 -- the field on the fault in a stack map (78) or in code (79), where the reason has one
 abbrev pub fault_sentence_fields : Reason → List Field
 fault_sentence_fields (BadStackMap fault) = (codes "fault_sentence", word (fault_sentence fault)) ∷ []
@@ -135,12 +174,3 @@ fault_sentence_fields why = []
 -- the fields that say why a method is refused
 abbrev pub reason_sentence_fields : Reason → List Field
 reason_sentence_fields why = (codes "sentence", word (sentence (reason_number why))) ∷ fault_sentence_fields why
-
--- ---- numbers
-
--- the number of the refusal of a file
-abbrev pub file_fault_number : FileFault → ℕ
-file_fault_number OutOfMemory = 1
-file_fault_number (Unread fault) = read_fault_number fault
-file_fault_number (NoClass fault) = read_fault_number fault
-file_fault_number (Malformed rule place) = rule_number rule

@@ -32,7 +32,7 @@ use Rattle.answers.specs.declared.command.Form.{Form}
 use Rattle.answers.specs.declared.command.Form.TheVariants.{Plain, Json}
 use Rattle.answers.specs.declared.manner.Manner.{Manner}
 use Rattle.answers.specs.declared.manner.Manner.TheVariants.{Told, Explained}
-use Rattle.answers.specs.Sentences.{sentence_line, sentence_fields, file_fault_number}
+use Rattle.answers.specs.Sentences.{sentence_line, sentence_fields, file_sentence_line, file_sentence_fields}
 use Rattle.answers.specs.Explanations.{explanation, explanation_object, explanations}
 use Rattle.printing.specs.FileParts.{file_part_lines, file_part_fields}
 use Rattle.printing.specs.ClassParts.{part_lines, attribute_line, part_fields, attribute_fields}
@@ -179,7 +179,7 @@ IsPart file r text = text ≡ []
 -- the lines of `explain` about a file that is refused with this line
 abbrev pub IsExplained : File → FileFault → List ℕ → List ℕ → Type 0
 IsExplained file r line text = (part : List ℕ) × IsPart file r part
-    × (text ≡ line ++ (sentence_line (file_fault_number r) ++ part))
+    × (text ≡ line ++ (file_sentence_line file.versions r ++ part))
 
 -- the fields of this part
 abbrev pub ArePartFields : File → FileFault → List Field → Type 0
@@ -192,7 +192,7 @@ ArePartFields file r fields = fields ≡ []
 -- the object of `explain` about a file that is refused, whose first fields are written by `begun`
 abbrev pub IsExplainedObject : File → FileFault → (List ℕ → List ℕ) → List ℕ → Type 0
 IsExplainedObject file r begun text = (part : List Field) × ArePartFields file r part
-    × (text ≡ begun (fields_then (sentence_fields (file_fault_number r)) (fields_behind part)))
+    × (text ≡ begun (fields_then (file_sentence_fields file.versions r) (fields_behind part)))
 
 -- the text about a file that is refused, by its line in each form and its object of JSON
 abbrev pub IsTold : Manner → File → FileFault → (Form → List ℕ) → (List ℕ → List ℕ) → List ℕ → Type 0

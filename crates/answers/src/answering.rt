@@ -1,7 +1,7 @@
 //! Answers a command.
 ghost use Rattle.std.specs.Prelude.{◌≡◌, map, Err, true};
 ghost use Rattle.answers.specs.Answers.{Answered, Says, has_lost, is_lost};
-ghost use Rattle.answers.specs.Files.{file_view, read_view};
+ghost use Rattle.answers.specs.Files.{file_view, files_view, input_view, judged_file, known_file};
 ghost use Rattle.answers.specs.declared.fault.AnswerFault.TheVariants.{OutOfMemory};
 
 use crate::checking::check;
@@ -9,10 +9,11 @@ use crate::command::Command;
 use crate::fault::AnswerFault;
 use crate::manner::Manner;
 use crate::playing::play;
+use crate::reads::{InputFile, InputFiles};
 use crate::showing::show;
 use crate::verifying::verify;
 use crate::verifying_each::verify_each;
-use classfile::CutShort;
+use classfile::{CutShort, Profile};
 use layout::ReadFault;
 use std::alloc::Global;
 use std::hash::BuildHasher;
@@ -31,25 +32,27 @@ pub fn answer<W: Write, S: BuildHasher + Drop>(
     hasher: S,
     out: &mut W,
 ) -> Result<u8, AnswerFault>
-    ensures answered { Answered (Says command (map file_view reads.now)) (W.contents out.old)
+    ensures answered { Answered (Says command (map input_view reads.now)) (W.contents out.old)
         (W.contents out.new) result }
-    ensures memory { has_lost (map read_view reads.now) ≡ true → result ≡ Err OutOfMemory }
+    ensures memory { has_lost (map input_view reads.now) ≡ true → result ≡ Err OutOfMemory }
 {
     if has_lost(reads) {
         return Err(AnswerFault::OutOfMemory);
     }
     match reads {
         [] => Ok(0),
-        [read, known @ ..] => match command {
-            Command::Check(form) => check(alloc, form, read, out),
-            Command::Show => show(alloc, read, out),
+        [read, others @ ..] => match command {
+            Command::Check(form, profile) => check(alloc, form, known(profile, read), out),
+            Command::Show(profile) => show(alloc, known(profile, read), out),
             Command::Verify(form, profile) => {
+                let (file, known) = (judged(profile, read), all_known(profile, others));
                 let manner = Manner::Told(form);
-                verify(alloc, manner, profile, read, known, hasher, out)
+                verify(alloc, manner, profile, file, known, hasher, out)
             }
             Command::Explain(form, profile) => {
+                let (file, known) = (judged(profile, read), all_known(profile, others));
                 let manner = Manner::Explained(form);
-                verify(alloc, manner, profile, read, known, hasher, out)
+                verify(alloc, manner, profile, file, known, hasher, out)
             }
             Command::Play(profile) => play(alloc, profile, reads, hasher, out),
             Command::VerifyEach { profile, classes } => verify_each(
@@ -59,8 +62,32 @@ pub fn answer<W: Write, S: BuildHasher + Drop>(
     }
 }
 
+/// The file of a class that is judged by a profile.
+fn judged<'a>(profile: Profile, read: &'a Result<Vec<u8>, CutShort>) -> InputFile<'a>
+    ensures { file_view result ≡ judged_file profile (input_view read.now) }
+{
+    let versions = profile.judged_versions();
+    InputFile { read, versions }
+}
+
+/// The file of a class that is read, and not judged.
+fn known<'a>(profile: Profile, read: &'a Result<Vec<u8>, CutShort>) -> InputFile<'a>
+    ensures { file_view result ≡ known_file profile (input_view read.now) }
+{
+    let versions = profile.known_versions();
+    InputFile { read, versions }
+}
+
+/// The files of classes that are read, and not judged.
+fn all_known<'a>(profile: Profile, reads: &'a [Result<Vec<u8>, CutShort>]) -> InputFiles<'a>
+    ensures { files_view result ≡ map (known_file profile) (map input_view reads.now) }
+{
+    let versions = profile.known_versions();
+    InputFiles { reads, versions }
+}
+
 fn is_lost(read: &Result<Vec<u8>, CutShort>) -> bool
-    ensures { result ≡ is_lost (read_view read.now) }
+    ensures { result ≡ is_lost (input_view read.now) }
 {
     match read {
         Err(fault) => matches!(fault.why, ReadFault::OutOfMemory),
@@ -70,7 +97,7 @@ fn is_lost(read: &Result<Vec<u8>, CutShort>) -> bool
 
 /// True where memory ran out while one of the files was read.
 fn has_lost(reads: &[Result<Vec<u8>, CutShort>]) -> bool
-    ensures { result ≡ has_lost (map read_view reads.now) }
+    ensures { result ≡ has_lost (map input_view reads.now) }
 {
     for read in reads {
         if is_lost(read) {

@@ -5,9 +5,8 @@ ghost use Rattle.answers.specs.Texts.{ok_line};
 
 use crate::command::Form;
 use crate::fault::AnswerFault;
-use crate::reads::file_read;
+use crate::reads::InputFile;
 use crate::telling::{refuse, tell};
-use classfile::CutShort;
 use printing::{END, More, Object, Print, Quoted, Word, WriteFailed};
 use std::alloc::Global;
 use std::io::Write;
@@ -31,17 +30,17 @@ impl Print for OkLine {
     }
 }
 
-/// Answers `check` of a file, by its bytes or by why it could not be read.
+/// Answers `check` of a file.
 pub fn check<W: Write>(
     alloc: Global,
     form: Form,
-    read: &Result<Vec<u8>, CutShort>,
+    file: InputFile<'_>,
     out: &mut W,
 ) -> Result<u8, AnswerFault>
-    ensures { Answered (FileSays form (CheckTells form) (read_view read.now)) (W.contents out.old)
+    ensures { Answered (FileSays form (CheckTells form) (read_view file.entry)) (W.contents out.old)
         (W.contents out.new) result }
 {
-    match class_file(alloc, file_read(read)) {
+    match class_file(alloc, file.as_read()) {
         Ok(_class) => tell(&OkLine(form), 0, out),
         Err(fault) => refuse(form, fault, out),
     }

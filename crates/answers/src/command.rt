@@ -13,10 +13,10 @@ pub enum Form {
 /// A question about class files.
 #[derive(Clone, Copy, Debug, PartialEq, Eq)]
 pub enum Command {
-    /// `check FILE`: whether the file is a class file that is well formed.
-    Check(Form),
+    /// `check FILE`: whether the file is a class file that is well formed, of a version that the profile reads.
+    Check(Form, Profile),
     /// `show FILE`: what the class file holds.
-    Show,
+    Show(Profile),
     /// `verify CLASS KNOWN...`: the verdicts on the methods of the class in the first file, which may refer to the
     /// classes in the others; with `--dynamic` by [`Profile::Dynamic`].
     Verify(Form, Profile),

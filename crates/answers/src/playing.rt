@@ -1,16 +1,17 @@
 //! The command `play`: whether classes may run together.
 ghost use Rattle.std.specs.Prelude.{◌≡◌, List, map};
 ghost use Rattle.classfile.specs.declared.profile.Profile.{Profile as ProfileFact};
+ghost use Rattle.classfile.specs.Versions.{judged_versions};
 ghost use Rattle.verify.specs.Files.{Read};
 ghost use Rattle.verify.specs.Together.{NotTogether};
-ghost use Rattle.answers.specs.Files.{read_view};
+ghost use Rattle.answers.specs.Files.{input_read};
 ghost use Rattle.answers.specs.Answers.{Answered};
 ghost use Rattle.answers.specs.Plays.{PlaySays};
 
 use crate::command::Form;
 use crate::fault::AnswerFault;
 use crate::plays::{MethodRefusal, NumberedRefusal, RuleRefusal};
-use crate::reads::file_reads;
+use crate::reads::{InputFiles, file_reads};
 use crate::refusal::Refusal;
 use crate::telling::tell;
 use crate::verdicts::HierarchyRefusal;
@@ -52,9 +53,11 @@ pub fn play<S: BuildHasher + Drop, W: Write>(
     hasher: S,
     out: &mut W,
 ) -> Result<u8, AnswerFault>
-    ensures { Answered (PlaySays profile (map read_view reads.now)) (W.contents out.old) (W.contents out.new) result }
+    ensures { Answered (PlaySays profile (map (input_read (judged_versions profile)) reads.now))
+        (W.contents out.old) (W.contents out.new) result }
 {
-    let files = match file_reads(alloc, reads) {
+    let versions = profile.judged_versions();
+    let files = match file_reads(alloc, InputFiles { reads, versions }) {
         Ok(files) => files,
         Err(fault) => return Err(fault),
     };

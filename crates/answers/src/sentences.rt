@@ -4,10 +4,10 @@ ghost use Rattle.layout.specs.Refusals.{read_fault_number};
 ghost use Rattle.classfile.specs.Conditions.{rule_number};
 ghost use Rattle.hierarchy.specs.Faults.{number_of};
 ghost use Rattle.rules.specs.Reasons.{reason_number};
-ghost use Rattle.answers.specs.Sentences.{sentence, fault_sentence, numbered_line, sentence_line, fault_line, fault_lines, reason_lines, sentence_fields, fault_sentence_fields, reason_sentence_fields, file_fault_number};
+ghost use Rattle.answers.specs.Sentences.{sentence, fault_sentence, numbered_line, sentence_line, fault_line, fault_lines, reason_lines, sentence_fields, fault_sentence_fields, reason_sentence_fields, file_fault_number, version_sentence, kind_sentence, release_sentence, file_sentence, file_sentence_line, file_sentence_fields};
 ghost use Rattle.printing.specs.Json.{fields_then, fields_behind};
 
-use classfile::FormRule;
+use classfile::{FormRule, Versions};
 use hierarchy::HierarchyFault;
 use layout::ReadFault;
 use printing::{END, More, Number, Print, Quoted, Then, Word, WriteFailed};
@@ -182,38 +182,92 @@ impl Print for NumberedLine {
     }
 }
 
-/// The line that says why a file is refused.
+/// With a release, what is said of a version that it does not take; the sentence on another fault of bytes.
+fn version_sentence(fault: &ReadFault) -> &'static str
+    ensures { result.now ≡ version_sentence fault.now }
+{
+    match fault {
+        ReadFault::BadVersion { .. } =>
+            "BadVersion: the release takes no class of this version here",
+        _ => read_sentence(fault),
+    }
+}
+
+/// With a release, what is said of a constant of another kind than it should be; the sentence on another rule.
+fn kind_sentence(rule: FormRule) -> &'static str
+    ensures { result.now ≡ kind_sentence rule }
+{
+    match rule {
+        FormRule::WrongKind =>
+            "WrongKind: an index leads to another kind of constant than it should, or a constant stands in a class of a version that has none of its kind",
+        _ => rule_sentence(rule),
+    }
+}
+
+/// The sentence on a file that is refused, whose class may have the versions of a release.
+fn release_sentence(fault: &FileFault) -> &'static str
+    ensures { result.now ≡ release_sentence fault.now }
+{
+    match fault {
+        FileFault::OutOfMemory => "OutOfMemory: memory ran out",
+        FileFault::Unread(fault) => read_sentence(fault),
+        FileFault::NoClass(fault) => version_sentence(fault),
+        FileFault::Malformed { rule, .. } => kind_sentence(*rule),
+    }
+}
+
+/// The sentence on a file that is refused.
+fn plain_sentence(fault: &FileFault) -> &'static str
+    ensures { result.now ≡ sentence (file_fault_number fault.now) }
+{
+    match fault {
+        FileFault::OutOfMemory => "OutOfMemory: memory ran out",
+        FileFault::Unread(fault) | FileFault::NoClass(fault) => read_sentence(fault),
+        FileFault::Malformed { rule, .. } => rule_sentence(*rule),
+    }
+}
+
+/// The number of the refusal of a file.
+fn number_of_refusal(fault: &FileFault) -> u8
+    ensures { result ≡ file_fault_number fault.now }
+{
+    match fault {
+        FileFault::OutOfMemory => 1,
+        FileFault::Unread(fault) | FileFault::NoClass(fault) => fault.number(),
+        FileFault::Malformed { rule, .. } => rule.number(),
+    }
+}
+
+/// The line that says why a file is refused, whose class may have these versions.
 #[derive(Clone, Copy)]
-pub struct FileSentence(pub FileFault);
+pub struct FileSentence {
+    /// Why it is refused.
+    pub fault: FileFault,
+    /// The versions that its class may have.
+    pub versions: Versions,
+}
 
 impl FileSentence {
-    /// The number of the refusal, and its sentence.
-    fn line(&self) -> NumberedLine
-        ensures number { result.number ≡ file_fault_number self.now.0 }
-        ensures text { result.text.now ≡ sentence (file_fault_number self.now.0) }
+    /// The sentence.
+    fn text(&self) -> &'static str
+        ensures { result.now ≡ file_sentence self.now.versions self.now.fault }
     {
-        match self.0 {
-            FileFault::OutOfMemory => NumberedLine {
-                number: 1,
-                text: "OutOfMemory: memory ran out",
-            },
-            FileFault::Unread(fault) | FileFault::NoClass(fault) => NumberedLine {
-                number: fault.number(),
-                text: read_sentence(&fault),
-            },
-            FileFault::Malformed { rule, .. } => NumberedLine {
-                number: rule.number(),
-                text: rule_sentence(rule),
-            },
+        match self.versions {
+            Versions::Java7To17 => plain_sentence(&self.fault),
+            Versions::Release { .. } => release_sentence(&self.fault),
         }
     }
 }
 
 impl Print for FileSentence {
-    ghost text = { λ t. sentence_line (file_fault_number t.0) };
+    ghost text = { λ t. file_sentence_line t.versions t.fault };
 
     fn put<W: Write>(&self, out: &mut W) -> Result<(), WriteFailed> {
-        self.line().put(out)
+        NumberedLine {
+            number: number_of_refusal(&self.fault),
+            text: self.text(),
+        }
+        .put(out)
     }
 }
 
@@ -299,13 +353,13 @@ impl<'a> Print for ReasonSentences<'a> {
 
 /// The sentence on the refusal of a file as a field, and then the text after it.
 #[derive(Clone, Copy)]
-pub struct FileSentenceFields<B>(pub FileFault, pub B);
+pub struct FileSentenceFields<B>(pub FileSentence, pub B);
 
 impl<B: Print + Copy> Print for FileSentenceFields<B> {
-    ghost text = { λ t. fields_then (sentence_fields (file_fault_number t.0)) (B.text t.1) };
+    ghost text = { λ t. fields_then (file_sentence_fields t.0.versions t.0.fault) (B.text t.1) };
 
     fn put<W: Write>(&self, out: &mut W) -> Result<(), WriteFailed> {
-        More("sentence", Quoted(FileSentence(self.0).line().text), self.1).put(out)
+        More("sentence", Quoted(self.0.text()), self.1).put(out)
     }
 }
 

@@ -1,11 +1,11 @@
 //! The commands `verify` and `explain`: the verdicts on the methods of a class.
-ghost use Rattle.std.specs.Prelude.{◌≡◌, Err, IfOk, IfErr, length, map};
+ghost use Rattle.std.specs.Prelude.{◌≡◌, Err, IfOk, IfErr, length};
 ghost use Rattle.classfile.specs.Values.{Class};
 ghost use Rattle.classfile.specs.Views.{class_view};
 ghost use Rattle.classfile.specs.declared.profile.Profile.{Profile as ProfileFact};
 ghost use Rattle.verify.specs.Files.{IsDecoded, IsFormed};
 ghost use Rattle.verify.specs.Among.{ReportsAmong};
-ghost use Rattle.answers.specs.Files.{file_view, read_view, reads_of, refusal_status, CountsKnown};
+ghost use Rattle.answers.specs.Files.{file_view, files_view, read_view, reads_of, refusal_status, CountsKnown};
 ghost use Rattle.answers.specs.Answers.{Answered};
 ghost use Rattle.answers.specs.Verdicts.{VerifySays, class_object, class_refusal, known_object, known_refusal, file_object, IsExplained, IsExplainedObject, IsTold, report_status, explained};
 ghost use Rattle.answers.specs.declared.fault.AnswerFault.TheVariants.{OutOfMemory};
@@ -16,13 +16,13 @@ use crate::command::Form;
 use crate::explaining::Explanations;
 use crate::fault::AnswerFault;
 use crate::manner::Manner;
-use crate::reads::{file_read, file_reads, held};
+use crate::reads::{InputFile, InputFiles, file_reads};
 use crate::refusal::Refusal;
 use crate::refusing::{FinalSuperTold, HierarchyTold};
 use crate::sentences::{FileSentence, FileSentenceFields};
 use crate::telling::tell;
 use crate::verdicts::{ClassRefusal, FileObject, KnownRefusal, ReportText};
-use classfile::{ClassFile, CutShort, Profile, decode, fault_part, one_class};
+use classfile::{ClassFile, Profile, decode_under, fault_part, one_class};
 use printing::{
     AttributeFields, AttributeLine, END, FilePartFields, FilePartLines, PartFields, PartLines,
     Print, Then, Word,
@@ -35,15 +35,12 @@ use verify::{
 };
 
 /// The class file in a file; 1 where memory runs out. The file is known to be a class file.
-fn file_class<'a>(
-    alloc: Global,
-    read: &'a Result<Vec<u8>, CutShort>,
-) -> Result<ClassFile<'a>, AnswerFault>
-    ensures class { IfOk result (λ c. IsDecoded (read_view read.now) (class_view c)) }
+fn file_class<'a>(alloc: Global, file: InputFile<'a>) -> Result<ClassFile<'a>, AnswerFault>
+    ensures class { IfOk result (λ c. IsDecoded (read_view file.entry) (class_view c)) }
     ensures memory { IfErr result (λ e. e ≡ OutOfMemory) }
 {
-    match read {
-        Ok(bytes) => match decode(alloc, bytes) {
+    match file.read {
+        Ok(bytes) => match decode_under(alloc, file.versions, bytes) {
             Ok(class) => Ok(class),
             Err(_) => Err(AnswerFault::OutOfMemory),
         },
@@ -55,16 +52,17 @@ fn file_class<'a>(
 fn explain_file<T: Print + Copy, W: Write>(
     alloc: Global,
     line: T,
-    read: &Result<Vec<u8>, CutShort>,
+    file: InputFile<'_>,
     fault: FileFault,
     out: &mut W,
 ) -> Result<u8, AnswerFault>
-    ensures { Answered (λ t s. IsExplained (file_view read.now) fault (T.text line) t × (s ≡ refusal_status fault))
+    ensures { Answered (λ t s. IsExplained (file_view file.entry) fault (T.text line) t × (s ≡ refusal_status fault))
         (W.contents out.old) (W.contents out.new) result }
 {
-    let sentence = FileSentence(fault);
+    let versions = file.versions;
+    let sentence = FileSentence { fault, versions };
     match fault {
-        FileFault::Malformed { rule, place } => match file_class(alloc, read) {
+        FileFault::Malformed { rule, place } => match file_class(alloc, file) {
             Ok(class) => {
                 let class = &class;
                 let attribute = AttributeLine { class, rule, place };
@@ -74,7 +72,7 @@ fn explain_file<T: Print + Copy, W: Write>(
             Err(fault) => Err(fault),
         },
         FileFault::Unread(why) | FileFault::NoClass(why) => {
-            let part = FilePartLines(fault_part(held(read), why));
+            let part = FilePartLines(fault_part(file.held(), why));
             let text = Then(line, Then(sentence, part));
             tell(&text, Refusal(fault).status(), out)
         }
@@ -86,15 +84,16 @@ fn explain_file<T: Print + Copy, W: Write>(
 fn explain_object<W: Write>(
     alloc: Global,
     position: Option<usize>,
-    read: &Result<Vec<u8>, CutShort>,
+    file: InputFile<'_>,
     fault: FileFault,
     out: &mut W,
 ) -> Result<u8, AnswerFault>
-    ensures { Answered (λ t s. IsExplainedObject (file_view read.now) fault (file_object position fault) t
+    ensures { Answered (λ t s. IsExplainedObject (file_view file.entry) fault (file_object position fault) t
         × (s ≡ refusal_status fault)) (W.contents out.old) (W.contents out.new) result }
 {
+    let versions = file.versions;
     match fault {
-        FileFault::Malformed { rule, place } => match file_class(alloc, read) {
+        FileFault::Malformed { rule, place } => match file_class(alloc, file) {
             Ok(class) => {
                 let behind = AttributeFields {
                     class: &class,
@@ -107,7 +106,7 @@ fn explain_object<W: Write>(
                     place,
                     behind,
                 };
-                let behind = FileSentenceFields(fault, part);
+                let behind = FileSentenceFields(FileSentence { fault, versions }, part);
                 let text = FileObject {
                     position,
                     fault,
@@ -118,8 +117,8 @@ fn explain_object<W: Write>(
             Err(fault) => Err(fault),
         },
         FileFault::Unread(why) | FileFault::NoClass(why) => {
-            let part = FilePartFields(fault_part(held(read), why), END);
-            let behind = FileSentenceFields(fault, part);
+            let part = FilePartFields(fault_part(file.held(), why), END);
+            let behind = FileSentenceFields(FileSentence { fault, versions }, part);
             let text = FileObject {
                 position,
                 fault,
@@ -128,7 +127,7 @@ fn explain_object<W: Write>(
             tell(&text, Refusal(fault).status(), out)
         }
         FileFault::OutOfMemory => {
-            let behind = FileSentenceFields(fault, END);
+            let behind = FileSentenceFields(FileSentence { fault, versions }, END);
             let text = FileObject {
                 position,
                 fault,
@@ -143,19 +142,19 @@ fn explain_object<W: Write>(
 fn refuse_class<W: Write>(
     alloc: Global,
     manner: Manner,
-    read: &Result<Vec<u8>, CutShort>,
+    file: InputFile<'_>,
     fault: FileFault,
     out: &mut W,
 ) -> Result<u8, AnswerFault>
-    ensures { Answered (λ t s. IsTold manner (file_view read.now) fault (λ form. class_refusal form fault)
+    ensures { Answered (λ t s. IsTold manner (file_view file.entry) fault (λ form. class_refusal form fault)
         (class_object fault) t × (s ≡ refusal_status fault)) (W.contents out.old) (W.contents out.new) result }
 {
     let refusal = Refusal(fault);
     match manner {
         Manner::Told(form) => tell(&ClassRefusal { form, refusal }, refusal.status(), out),
         Manner::Explained(form) => match form {
-            Form::Plain => explain_file(alloc, ClassRefusal { form, refusal }, read, fault, out),
-            Form::Json => explain_object(alloc, None, read, fault, out),
+            Form::Plain => explain_file(alloc, ClassRefusal { form, refusal }, file, fault, out),
+            Form::Json => explain_object(alloc, None, file, fault, out),
         },
     }
 }
@@ -165,11 +164,11 @@ fn refuse_known<W: Write>(
     alloc: Global,
     manner: Manner,
     number: usize,
-    read: &Result<Vec<u8>, CutShort>,
+    file: InputFile<'_>,
     fault: FileFault,
     out: &mut W,
 ) -> Result<u8, AnswerFault>
-    ensures { Answered (λ t s. IsTold manner (file_view read.now) fault (λ form. known_refusal form number fault)
+    ensures { Answered (λ t s. IsTold manner (file_view file.entry) fault (λ form. known_refusal form number fault)
         (known_object number fault) t × (s ≡ refusal_status fault)) (W.contents out.old) (W.contents out.new) result }
 {
     let refusal = Refusal(fault);
@@ -189,9 +188,9 @@ fn refuse_known<W: Write>(
                     number,
                     refusal,
                 };
-                explain_file(alloc, line, read, fault, out)
+                explain_file(alloc, line, file, fault, out)
             }
-            Form::Json => explain_object(alloc, Some(number), read, fault, out),
+            Form::Json => explain_object(alloc, Some(number), file, fault, out),
         },
     }
 }
@@ -200,23 +199,23 @@ fn refuse_known<W: Write>(
 fn refuse<W: Write>(
     alloc: Global,
     manner: Manner,
-    read: &Result<Vec<u8>, CutShort>,
-    known: &[Result<Vec<u8>, CutShort>],
+    file: InputFile<'_>,
+    known: InputFiles<'_>,
     fault: AmongFault<'_>,
     out: &mut W,
 ) -> Result<u8, AnswerFault>
-    requires { CountsKnown fault (length known.now) }
+    requires { CountsKnown fault (length known.reads.now) }
     ensures { (profile : ProfileFact)
-        → ReportsAmong profile (read_view read.now) (reads_of (map file_view known.now)) (Err fault.entry)
-        → Answered (VerifySays manner profile (file_view read.now) (map file_view known.now)) (W.contents out.old)
+        → ReportsAmong profile (read_view file.entry) (reads_of (files_view known.entry)) (Err fault.entry)
+        → Answered (VerifySays manner profile (file_view file.entry) (files_view known.entry)) (W.contents out.old)
         (W.contents out.new) result }
 {
     match fault {
         AmongFault::OutOfMemory => Err(AnswerFault::OutOfMemory),
-        AmongFault::Refused(fault) => refuse_class(alloc, manner, read, fault, out),
+        AmongFault::Refused(fault) => refuse_class(alloc, manner, file, fault, out),
         AmongFault::KnownRefused { number, fault } => {
-            let read = &known[number - 1];
-            refuse_known(alloc, manner, number, read, fault, out)
+            let file = known.file(number - 1);
+            refuse_known(alloc, manner, number, file, fault, out)
         }
         AmongFault::NoHierarchy(fault) => tell(&HierarchyTold { manner, fault }, 1, out),
         AmongFault::FinalSuper => tell(&FinalSuperTold(manner), 1, out),
@@ -227,16 +226,16 @@ fn refuse<W: Write>(
 fn explain<'a, W: Write>(
     alloc: Global,
     form: Form,
-    read: &'a Result<Vec<u8>, CutShort>,
+    file: InputFile<'a>,
     found: &Explained<'a>,
     out: &mut W,
 ) -> Result<u8, AnswerFault>
-    ensures { (c : Class) → IsFormed (read_view read.now) c → let rs = found.now.report.methods.items in
+    ensures { (c : Class) → IsFormed (read_view file.entry) c → let rs = found.now.report.methods.items in
         Answered (λ t s. (t ≡ explanations (explained form c.constant_pool) c.methods rs found.now.frames.items)
         × (s ≡ report_status rs)) (W.contents out.old) (W.contents out.new) result }
 {
     one_class();
-    match class_file(alloc, file_read(read)) {
+    match class_file(alloc, file.as_read()) {
         Ok(class) => {
             let methods = &found.report.methods;
             let explanations = Explanations {
@@ -258,25 +257,25 @@ fn tell_verdicts<'a, S: BuildHasher + Drop, W: Write>(
     alloc: Global,
     form: Form,
     profile: Profile,
-    read: &'a Result<Vec<u8>, CutShort>,
-    known: &'a [Result<Vec<u8>, CutShort>],
+    file: InputFile<'a>,
+    known: InputFiles<'a>,
     hasher: S,
     out: &mut W,
 ) -> Result<u8, AnswerFault>
-    ensures { Answered (VerifySays (manners.Told form) profile (file_view read.now) (map file_view known.now))
+    ensures { Answered (VerifySays (manners.Told form) profile (file_view file.entry) (files_view known.entry))
         (W.contents out.old) (W.contents out.new) result }
 {
     let files = match file_reads(alloc, known) {
         Ok(files) => files,
         Err(fault) => return Err(fault),
     };
-    match verify_among_under(alloc, profile, file_read(read), &files, hasher) {
+    match verify_among_under(alloc, profile, file.as_read(), &files, hasher) {
         Ok(found) => {
             let methods = &found.methods;
             let text = ReportText { form, methods };
             tell(&text, text.status(), out)
         }
-        Err(fault) => refuse(alloc, Manner::Told(form), read, known, fault, out),
+        Err(fault) => refuse(alloc, Manner::Told(form), file, known, fault, out),
     }
 }
 
@@ -285,21 +284,21 @@ fn explain_verdicts<'a, S: BuildHasher + Drop, W: Write>(
     alloc: Global,
     form: Form,
     profile: Profile,
-    read: &'a Result<Vec<u8>, CutShort>,
-    known: &'a [Result<Vec<u8>, CutShort>],
+    file: InputFile<'a>,
+    known: InputFiles<'a>,
     hasher: S,
     out: &mut W,
 ) -> Result<u8, AnswerFault>
-    ensures { Answered (VerifySays (manners.Explained form) profile (file_view read.now) (map file_view known.now))
+    ensures { Answered (VerifySays (manners.Explained form) profile (file_view file.entry) (files_view known.entry))
         (W.contents out.old) (W.contents out.new) result }
 {
     let files = match file_reads(alloc, known) {
         Ok(files) => files,
         Err(fault) => return Err(fault),
     };
-    match explain_among_under(alloc, profile, file_read(read), &files, hasher) {
-        Ok(found) => explain(alloc, form, read, &found, out),
-        Err(fault) => refuse(alloc, Manner::Explained(form), read, known, fault, out),
+    match explain_among_under(alloc, profile, file.as_read(), &files, hasher) {
+        Ok(found) => explain(alloc, form, file, &found, out),
+        Err(fault) => refuse(alloc, Manner::Explained(form), file, known, fault, out),
     }
 }
 
@@ -308,18 +307,18 @@ pub fn verify<'a, S: BuildHasher + Drop, W: Write>(
     alloc: Global,
     manner: Manner,
     profile: Profile,
-    read: &'a Result<Vec<u8>, CutShort>,
-    known: &'a [Result<Vec<u8>, CutShort>],
+    file: InputFile<'a>,
+    known: InputFiles<'a>,
     hasher: S,
     out: &mut W,
 ) -> Result<u8, AnswerFault>
-    ensures { Answered (VerifySays manner profile (file_view read.now) (map file_view known.now)) (W.contents out.old)
+    ensures { Answered (VerifySays manner profile (file_view file.entry) (files_view known.entry)) (W.contents out.old)
         (W.contents out.new) result }
 {
     match manner {
-        Manner::Told(form) => tell_verdicts(alloc, form, profile, read, known, hasher, out),
+        Manner::Told(form) => tell_verdicts(alloc, form, profile, file, known, hasher, out),
         Manner::Explained(form) => {
-            explain_verdicts(alloc, form, profile, read, known, hasher, out)
+            explain_verdicts(alloc, form, profile, file, known, hasher, out)
         }
     }
 }

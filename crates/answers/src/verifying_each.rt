@@ -1,13 +1,13 @@
 //! The command `verify-each`: the verdicts on the methods of each of many classes.
 ghost use Rattle.std.specs.Prelude.{map, take, drop};
-ghost use Rattle.answers.specs.Files.{read_view};
+ghost use Rattle.answers.specs.Files.{files_view, input_view, judged_file, known_file, reads_of};
 ghost use Rattle.answers.specs.Answers.{Answered};
 ghost use Rattle.answers.specs.Judgements.{EachSays};
 
 use crate::command::Form;
 use crate::fault::AnswerFault;
 use crate::judgements::JudgementsText;
-use crate::reads::file_reads;
+use crate::reads::{InputFiles, file_reads};
 use crate::telling::tell;
 use crate::verdicts::HierarchyRefusal;
 use classfile::{CutShort, Profile};
@@ -20,15 +20,15 @@ use verify::{EachFault, verify_each as judge_each};
 fn verify_among<'a, S: BuildHasher + Drop, W: Write>(
     alloc: Global,
     profile: Profile,
-    reads: &'a [Result<Vec<u8>, CutShort>],
-    known: &'a [Result<Vec<u8>, CutShort>],
+    classes: InputFiles<'a>,
+    known: InputFiles<'a>,
     hasher: S,
     out: &mut W,
 ) -> Result<u8, AnswerFault>
-    ensures { Answered (EachSays profile (map read_view reads.now) (map read_view known.now)) (W.contents out.old)
-        (W.contents out.new) result }
+    ensures { Answered (EachSays profile (reads_of (files_view classes.entry)) (reads_of (files_view known.entry)))
+        (W.contents out.old) (W.contents out.new) result }
 {
-    let files = match file_reads(alloc, reads) {
+    let files = match file_reads(alloc, classes) {
         Ok(files) => files,
         Err(fault) => return Err(fault),
     };
@@ -59,9 +59,18 @@ pub fn verify_each<S: BuildHasher + Drop, W: Write>(
     hasher: S,
     out: &mut W,
 ) -> Result<u8, AnswerFault>
-    ensures { Answered (EachSays profile (take classes (map read_view reads.now))
-        (drop classes (map read_view reads.now))) (W.contents out.old) (W.contents out.new) result }
+    ensures { let files = map input_view reads.now in
+        Answered (EachSays profile (reads_of (map (judged_file profile) (take classes files)))
+        (reads_of (map (known_file profile) (drop classes files)))) (W.contents out.old) (W.contents out.new) result }
 {
-    let (files, known) = reads.split_at(classes.min(reads.len()));
+    let (files, others) = reads.split_at(classes.min(reads.len()));
+    let files = InputFiles {
+        reads: files,
+        versions: profile.judged_versions(),
+    };
+    let known = InputFiles {
+        reads: others,
+        versions: profile.known_versions(),
+    };
     verify_among(alloc, profile, files, known, hasher, out)
 }

@@ -10,13 +10,14 @@ use Rattle.std.proofs.lemmas.Bool.{cases_eq, cases_lt, or_right}
 use Rattle.std.proofs.lemmas.List.FromFn.{length-map-range_with_len, get_or-map-range_with_len}
 use Rattle.blocks.specs.declared.node.Node.{Node}
 use Rattle.blocks.specs.Rows.{Rows, declared_row, AreEqualBetween, is_decided, IsSettled, IsFirstUndecided, IsFirstUnequal, StandsAt, IsSaidToFit}
-use Rattle.blocks.specs.private.Trees.{node_at, level_of, below, number_at, width, IsTree, IsPut, IsKnown, IsSettledBelow, IsFirstUndecidedBelow, IsEqualBelow, IsFirstUnequalBelow, Keeps, SharesSame, NotesOnly}
+use Rattle.blocks.specs.private.Trees.{node_at, level_of, below, number_at, width, IsTree, IsPut, IsKnown, IsSettledBelow, IsFirstUndecidedBelow, IsEqualBelow, IsFirstUnequalBelow, Keeps, SharesSame, NotesOnly, IsKnownToFit}
 use Rattle.blocks.specs.private.Arenas.{row_of, pairs_of, known_pairs, rows_of, IsArena, AreEmpty}
 use Rattle.blocks.proofs.Places.{number_modulo}
 use Rattle.blocks.specs.private.Blocks.{place_in}
 use Rattle.blocks.proofs.Trees.{place_low}
 use Rattle.blocks.proofs.Noting.{noted_numbers, noted_below, noted_forest}
 use Rattle.blocks.proofs.Putting.{shares_kept}
+use Rattle.blocks.proofs.Remembered.{remembered_known}
 
 pub row_length : (ns : List Node) (count id : ℕ) → length (row_of ns count id) ≡ count
 row_length ns count id = length-map-range_with_len (number_at ns (level_of ns id) id) 0 count
@@ -567,7 +568,7 @@ module _ (ns ms : List Node) (own root id kept count : ℕ) (declared : List ℕ
               ]
         ]
 
-    pub noted_said : (rows : Rows) → rows_of ns root kept count declared ≡ rows → (id ≡ root) ⊎ ((node_at ms id).seen ≡ Some root) → IsSaidToFit rows (rows_of ms root kept count declared) row
+    pub noted_said : (rows : Rows) → rows_of ns root kept count declared ≡ rows → IsKnownToFit ms root id → IsSaidToFit rows (rows_of ms root kept count declared) row
     noted_said rows is done =
         let new : Rows = rows_of ms root kept count declared in
         let within = a.tree.within in
@@ -579,16 +580,19 @@ module _ (ns ms : List Node) (own root id kept count : ℕ) (declared : List ℕ
         let few = declared_length ms root kept count declared new refl in
         let each : (k : ℕ) → IsSettledBelow ms (level_of ms root) root id k =
         λ k. elim done [
-          | inl e ↦ inl (ap (λ i. is_decided (number_at ms (level_of ms root) root k) (number_at ms (level_of ms root) i k)) e ∙ decided_same (number_at ms (level_of ms root) root k))
-          | inr e ↦ inr (record {
-            node = id;
-            fit = root;
-            slot = k;
-            inside = inside;
-            seen = e;
-            fits = ap (λ l. number_at ms l root k) (sym alike);
-            asks = ap (λ l. number_at ms l id k) (sym alike);
-          })
+          | inl e ↦ inl (ap (λ i. is_decided (number_at ms (level_of ms root) root k) (number_at ms (level_of ms root) i k)) (sym e) ∙ decided_same (number_at ms (level_of ms root) root k))
+          | inr told ↦ inr (elim told [
+            | inl e ↦ record {
+              node = id;
+              fit = root;
+              slot = k;
+              inside = inside;
+              seen = e;
+              fits = ap (λ l. number_at ms l root k) (sym alike);
+              asks = ap (λ l. number_at ms l id k) (sym alike);
+            }
+            | inr r ↦ remembered_known ms root id r alike k
+          ])
         ] in
         let running : row_of ms count root ≡ rows.running = noted_running ∙ ap (λ r. r.running) is in
         let wanted : row_of ns count id ≡ declared_row rows row =

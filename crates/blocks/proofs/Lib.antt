@@ -10,3 +10,7 @@ pub mod Arenas
 pub mod Judging
 pub mod Outcomes
 pub mod Shared
+pub mod Pendings
+pub mod Remembered
+pub mod Compacted
+pub mod Copies

@@ -148,5 +148,5 @@ notes_last ns ms id wanted f known there alike n =
           ]
         ];
       };
-      done = inr (ap (λ m. m.seen) here);
+      done = inr (inl (ap (λ m. m.seen) here));
     }

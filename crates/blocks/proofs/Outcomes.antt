@@ -1,16 +1,16 @@
 -- Nodes in which a number is replaced by another.
-use Rattle.std.proofs.Common.{◌≡◌, ◌≢◌, ◌∙◌, ℕ, zero, suc, ◌+◌, ◌-◌, ◌*◌, ◌%◌, ◌<◌, ◌≤◌, ◌⊎◌, inl, inr, Bool, true, false, cond, List, [], ◌∷◌, length, map, get_or, set, Option, Some, None, Result, Ok, Err, IfOk, OnErr, refl, sym, ap, subst, arith, get_or-set_same, get_or-set_other}
+use Rattle.std.proofs.Common.{◌≡◌, ◌≢◌, ◌∙◌, ℕ, suc, ◌-◌, ◌%◌, ◌<◌, ◌≤◌, ◌⊎◌, inl, inr, List, [], length, get_or, Result, Ok, Err, IfOk, OnErr, refl, sym, ap, subst, arith}
 use Rattle.std.specs.Ordering.{nat_cmp}
 use Rattle.std.specs.BTreeMap.{get}
 use Rattle.std.specs.declared.alloc.AllocError.{AllocError}
-use Rattle.std.proofs.lemmas.Bool.{cases_eq, cases_lt}
+use Rattle.std.proofs.lemmas.Bool.{cases_lt}
 use Rattle.std.proofs.lemmas.Nat.{mod_below}
 use Rattle.blocks.specs.Rows.{replaced}
 use Rattle.blocks.specs.declared.node.Node.{Node}
 use Rattle.blocks.specs.declared.replacing.Replacements.{Replacements}
 use Rattle.blocks.specs.private.Blocks.{place_in}
-use Rattle.blocks.specs.private.Trees.{no_node, node_at, level_of, below, number_at, IsForest}
-use Rattle.blocks.specs.private.Replacing.{key_of, kept_at, IsReplaced, AreReplaced, KeepsReplaced, Grows, IsMade}
+use Rattle.blocks.specs.private.Trees.{node_at, level_of, below, number_at, IsForest}
+use Rattle.blocks.specs.private.Replacing.{key_of, IsReplaced, AreReplaced, KeepsReplaced, Grows, IsMade}
 use Rattle.blocks.proofs.Trees.{place_low, number_same}
 
 -- ---- nodes that hold what they held

@@ -1,11 +1,10 @@
 -- The rows of an arena whose own nodes were given back, and of one in which nodes were put after others.
-use Rattle.std.proofs.Common.{◌≡◌, ◌∙◌, ℕ, zero, suc, ◌+◌, ◌-◌, ◌<◌, ◌≤◌, ◌⊎◌, inl, inr, ◌++◌, false, cond, List, [], ◌∷◌, map, take, length, get_or, Option, Some, None, refl, sym, ap, subst, arith}
+use Rattle.std.proofs.Common.{◌≡◌, ◌∙◌, ℕ, zero, suc, ◌-◌, ◌<◌, ◌≤◌, inl, inr, ◌++◌, false, cond, List, [], ◌∷◌, map, take, length, get_or, Some, None, refl, sym, ap, subst, arith}
 use Rattle.std.specs.Prelude.{nat_eq}
-use Rattle.std.specs.List.{range_with_len}
 use Rattle.std.proofs.lemmas.Bool.{cases_lt}
 use Rattle.std.proofs.lemmas.Bool.Decides.{nat_tests}
 use Rattle.std.proofs.lemmas.List.{append-nil, ext_get_or, get_or-take, length-map, length-take-le}
-use Rattle.blocks.specs.Rows.{Rows, replaced}
+use Rattle.blocks.specs.Rows.{replaced}
 use Rattle.blocks.specs.declared.node.Node.{Node}
 use Rattle.blocks.specs.private.Trees.{no_node, node_at, level_of, below, number_at, width, IsTree, NotesOnly, SharesSame}
 use Rattle.blocks.specs.private.Arenas.{row_of, pairs_of, known_pairs, rows_of, IsArena}

@@ -3,3 +3,6 @@ pub mod Blocks
 pub mod Trees
 pub mod Arenas
 pub mod Replacing
+pub mod Pending
+pub mod Remembering
+pub mod Compacting

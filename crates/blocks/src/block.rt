@@ -1,7 +1,7 @@
 //! Blocks of 16 numbers, compared by lanes.
 ghost use Rattle.std.specs.Prelude.{◌≡◌, ◌≤◌, ◌<◌, ◌+◌, ◌*◌, ◌/◌, ◌%◌, ◌^◌, ◌↔◌, length, IsTrue};
 ghost use Rattle.blocks.specs.Rows.{is_decided};
-ghost use Rattle.blocks.specs.private.Blocks.{place_in, AreEqual, IsFirstLane, IsFirstUnequalLane};
+ghost use Rattle.blocks.specs.private.Blocks.{place_in, AreEqual, IsFirstLane, IsFirstNewLane, IsFirstUnequalLane};
 
 use crate::lanes::decided_lanes;
 use std::simd::u32x8;
@@ -91,9 +91,32 @@ pub(crate) fn first_unequal_lane(numbers: &[u32; 16], others: &[u32; 16], from: 
     let mut lane = from;
     if from <= 8 {
         lane += equal_lanes(numbers, others, from);
+        if lane == from + 8 {
+            lane = 8 + equal_lanes(numbers, others, 8);
+        }
     }
     while lane < 16 && numbers[lane] == others[lane] {
         lane += 1;
+    }
+    lane
+}
+
+/// The first lane from one on that is not decided and does not hold what a third block does, or 16.
+pub(crate) fn first_new_lane(
+    numbers: &[u32; 16],
+    wanted: &[u32; 16],
+    fitting: &[u32; 16],
+    from: usize,
+) -> usize
+    requires { from < 16 }
+    ensures { IsFirstNewLane numbers.now wanted.now fitting.now from result }
+{
+    let mut lane = first_unequal_lane(numbers, fitting, from);
+    while lane < 16 && is_decided(numbers[lane], wanted[lane]) {
+        lane += 1;
+        if lane < 16 {
+            lane = first_unequal_lane(numbers, fitting, lane);
+        }
     }
     lane
 }

@@ -2,8 +2,10 @@
 ghost use Rattle.std.specs.Prelude.{◌≡◌, ◌≤◌, ◌<◌, ◌+◌, ◌*◌, ◌/◌, ◌^◌, ◌↔◌, length, IsTrue, Some};
 ghost use Rattle.blocks.specs.private.Trees.{IsForest, IsSettledUpTo, IsFirstUndecidedBelow, IsEqualUpTo, IsFirstUnequalBelow, level_of, width};
 
-use crate::block::{first_lane, first_unequal_lane, place_in};
-use crate::node::Node;
+use crate::block::{first_lane, first_new_lane, first_unequal_lane, place_in};
+use crate::fitting::is_known;
+use crate::node::{Node, is_seen};
+use crate::remembering::Fits;
 
 /// The slot after the node of a level in which a slot stands.
 fn end_of(slot: usize, level: u32) -> usize
@@ -15,18 +17,34 @@ fn end_of(slot: usize, level: u32) -> usize
     ((slot >> bits) + 1) << bits
 }
 
-/// Whether a node was the last that was said to fit another.
-pub(crate) fn is_seen(node: &Node, id: u32) -> bool
-    ensures { IsTrue result ↔ (node.now.seen ≡ Some id) }
+/// How far the slots from one on are decided in two blocks, or known to fit; at most to the end of the blocks. Where the
+/// wanted one was fitted by another block, only the lanes in which the two differ are left open.
+fn settled_in_block(nodes: &[Node], id: u32, wanted: u32, slot: usize) -> usize
+    requires forest { IsForest nodes.now }
+    requires node { id < length nodes.now }
+    requires wanted { wanted < length nodes.now }
+    requires block { level_of nodes.now id ≡ 0 }
+    requires level { level_of nodes.now wanted ≡ 0 }
+    requires slot { slot < 2 ^ 32 }
+    ensures { IsSettledUpTo nodes.now 0 id wanted slot result }
 {
-    match node.seen {
-        Some(seen) => seen == id,
-        None => false,
+    let node = &nodes[id as usize];
+    let other = &nodes[wanted as usize];
+    if id == wanted || is_seen(other, id) {
+        return slot / 16 * 16 + 16;
+    }
+    let lane = first_lane(&node.numbers, &other.numbers, slot % 16);
+    match other.seen {
+        Some(seen) if lane < 16 && (seen as usize) < nodes.len() => {
+            let fitting = &nodes[seen as usize];
+            slot / 16 * 16 + first_new_lane(&node.numbers, &other.numbers, &fitting.numbers, lane)
+        }
+        _ => slot / 16 * 16 + lane,
     }
 }
 
 /// How far the slots from one on are decided below two nodes, or known to fit; at most to the end of a node.
-fn settled_end(nodes: &[Node], id: u32, wanted: u32, slot: usize) -> usize
+fn settled_end(nodes: &[Node], fits: &Fits, id: u32, wanted: u32, slot: usize) -> usize
     requires forest { IsForest nodes.now }
     requires node { id < length nodes.now }
     requires wanted { wanted < length nodes.now }
@@ -36,19 +54,20 @@ fn settled_end(nodes: &[Node], id: u32, wanted: u32, slot: usize) -> usize
 {
     let node = &nodes[id as usize];
     let other = &nodes[wanted as usize];
-    if id == wanted || is_seen(other, id) {
+    if node.level == 0 {
+        return settled_in_block(nodes, id, wanted, slot);
+    }
+    if is_known(nodes, fits, id, wanted) {
         return end_of(slot, node.level);
     }
-    if node.level == 0 {
-        return slot / 16 * 16 + first_lane(&node.numbers, &other.numbers, slot % 16);
-    }
     let place = place_in(slot, node.level);
-    settled_end(nodes, node.numbers[place], other.numbers[place], slot)
+    settled_end(nodes, fits, node.numbers[place], other.numbers[place], slot)
 }
 
 /// The first slot from one up to an end at which neither numbers nor what was said before decide.
 pub(crate) fn first_undecided_below(
     nodes: &[Node],
+    fits: &Fits,
     id: u32,
     wanted: u32,
     from: usize,
@@ -63,7 +82,7 @@ pub(crate) fn first_undecided_below(
 {
     let mut at = from;
     while at < to {
-        let end = settled_end(nodes, id, wanted, at);
+        let end = settled_end(nodes, fits, id, wanted, at);
         if end == at {
             return Some(at);
         }

@@ -23,24 +23,34 @@
 //! pairs of numbers that the caller said to fit; by the laws in `laws`, all of these pairs fit by the caller's own
 //! judgement, as long as it says so of rows that do.
 //!
-//! - `arena`: the rows of a method, and every call on them
+//! - `arena`: the rows of a method, and every call on them; replacements may be pending
 //! - `block`: blocks of 16 numbers, compared by lanes
+//! - `compacting`: copies of the nodes that rows have, without all others
 //! - `comparison`: two trees compared slot by slot, as far as numbers and earlier fits decide
 //! - `fitting`: nodes that are said to fit others
 //! - `lanes`: eight numbers compared at a time; the kernel of `frames` too
 //! - `laws`: what the pairs that were said to fit mean; its functions do nothing
 //! - `node`: a node of a tree
+//! - `pending`: replacements that are pending
+//! - `remembering`: nodes that were said to fit others, beside the last one
+//! - `replacing`: a number put in place of another, in trees that share what comes of it
+//! - `row_trees`: the rows of a method, as trees of nodes that they share
 //! - `tree`: what a slot holds, and how a number is put where no other row sees it
 #![tactic(auto)]
 
 mod arena;
 mod block;
+mod compacting;
 mod comparison;
 mod fitting;
 pub mod lanes;
 pub mod laws;
 mod node;
+mod pending;
+mod remembering;
 mod replacing;
+mod row_trees;
 mod tree;
 
-pub use arena::{Arena, Row};
+pub use arena::Arena;
+pub use row_trees::Row;

@@ -9,20 +9,15 @@ use crate::node::Node;
 use std::alloc::{AllocError, Global};
 use std::collections::BTreeMap;
 
-/// So many nodes may come of replacements in one method.
-const MOST_MADE: usize = 0x4_0000;
-
 /// So many replacements are remembered at once.
 const MOST_KEPT: usize = 0x1_0000;
 
-/// The outcomes of nodes above blocks in which a number was replaced. It is emptied where a method begins, and where it
-/// has [`MOST_KEPT`] entries.
+/// The outcomes of nodes above blocks in which a number was replaced. It is emptied where a method begins, where nodes
+/// are taken out, and where it has [`MOST_KEPT`] entries.
 #[derive(Drop)]
 pub(crate) struct Replacements {
     /// By a node and the two numbers, the node that holds the outcome.
     nodes: BTreeMap<u128, u32>,
-    /// How many nodes were made.
-    made: usize,
 }
 
 /// The key of a node, a number and the one in its place.
@@ -50,7 +45,6 @@ impl Replacements {
     {
         Replacements {
             nodes: BTreeMap::new(alloc),
-            made: 0,
         }
     }
 
@@ -59,12 +53,6 @@ impl Replacements {
         ensures { AreReplaced [] 0 self.new }
     {
         self.nodes.clear();
-        self.made = 0;
-    }
-
-    /// Whether fewer nodes were made than an arena may keep.
-    pub fn has_room(&self) -> bool {
-        self.made < MOST_MADE
     }
 
     /// The node that holds the outcome for one, if it was made before.
@@ -104,7 +92,6 @@ impl Replacements {
             return Err(AllocError);
         }
         nodes.push(node)?;
-        self.made = self.made.saturating_add(1);
         Ok(last)
     }
 

@@ -1,6 +1,6 @@
 //! Opens and reads the files of a line.
 ghost use Rattle.std.specs.Prelude.{◌≡◌, IfOk, IfErr, length};
-ghost use Rattle.answers.specs.Files.{file_view};
+ghost use Rattle.answers.specs.Files.{input_view};
 ghost use Rattle.classck.specs.Endings.{StopsReading};
 
 use crate::ending::Ending;
@@ -15,7 +15,7 @@ use std::io::BufReader;
 /// Gives back the room that the bytes of a file do not need, of which very many files would take as much as their own
 /// bytes many times.
 fn without_room(read: Result<Vec<u8>, CutShort>) -> Result<Vec<u8>, CutShort>
-    ensures { file_view result ≡ file_view read }
+    ensures { input_view result ≡ input_view read }
 {
     match read {
         Ok(mut bytes) => {
@@ -29,9 +29,13 @@ fn without_room(read: Result<Vec<u8>, CutShort>) -> Result<Vec<u8>, CutShort>
     }
 }
 
+/// The bytes of the buffer through which a file is read. Three of four class files are not longer, and to make a buffer
+/// of twice as many takes more time than to read again.
+const BUFFER: usize = 4096;
+
 /// Reads a file through a buffer, as far as its class reaches and one byte more.
 fn read_file(alloc: Global, file: File) -> Result<Vec<u8>, CutShort> {
-    match BufReader::new(alloc, file) {
+    match BufReader::with_capacity(alloc, BUFFER, file) {
         Ok(mut reader) => without_room(read_whole(alloc, &mut reader)),
         Err(_) => Err(CutShort {
             bytes: Vec::new(alloc),

@@ -17,6 +17,7 @@ use Rattle.pool.specs.Entries.{Entry, one, two, utf8, text_or, kind_or, method_h
 use Rattle.pool.specs.Entries.{Integer, Float, Long, Double, Class, String, Fieldref, Methodref, InterfaceMethodref, NameAndType, MethodType, Dynamic, InvokeDynamic}
 use Rattle.classfile.specs.declared.location.Location.{Location}
 use Rattle.classfile.specs.Values.{of_parts, Class as Value}
+use Rattle.classfile.specs.declared.versions.Versions.{Versions}
 use Rattle.classfile.specs.ClassFile as layouts
 use Rattle.classfile.specs.Outline.{end, bytes, repeated, counted, text, both, wide, constant, is_wide, tagged, indexed, constants, pool, attribute, attributes, numbers, member, members, interfaces, behind_pool, head, outline}
 
@@ -239,19 +240,19 @@ covers_interfaces : Covers layouts.interfaces interfaces Any
 unfolding layouts.interfaces interfaces numbers
 covers_interfaces = covers_table (number 2) (number 2) (record { holds = λ given v s. (v, s, tt) })
 
-covers_head : Covers layouts.version head Any
+covers_head : (versions : Versions) → Covers (layouts.version versions) head Any
 unfolding layouts.version head numbers repeated
-covers_head =
+covers_head versions =
     covers_part Any 4 _ _ (λ first. covers_if Any _ _ _ _ _ (covers_part Any 2 _ _ (λ minor. covers_part Any 2 _ _ (λ major. covers_end _ (ends_if _ _ _ (ends_done _) (ends_refuse _))))) (covers_refused Any _ _))
 
 covers_class_attributes : (entries_of : List Entry) (place : Location) → Covers (layouts.class_attributes entries_of place) attributes Any
 unfolding layouts.class_attributes attributes
 covers_class_attributes entries_of place = covers_table _ _ (covers_class_attribute entries_of place)
 
-covers_class : Covers layouts.class outline Any
+covers_class : (versions : Versions) → Covers (layouts.class versions) outline Any
 unfolding layouts.class outline behind_pool
-covers_class =
-    covers_then layouts.version head _ _ Any Any covers_head (λ version v r.
+covers_class versions =
+    covers_then (layouts.version versions) head _ _ Any Any (covers_head versions) (λ version v r.
     covers_then pool_entries pool _ _ Any Any covers_pool (λ entries_of w s.
     covers_then layouts.three (numbers 3) _ _ Any Any covers_three (λ flags x t.
     covers_then layouts.interfaces interfaces _ _ Any Any covers_interfaces (λ above y u.
@@ -259,5 +260,5 @@ covers_class =
     covers_then (layouts.members entries_of location.Method) members _ _ Any Any (covers_members entries_of location.Method) (λ methods l m.
     covers_made (layouts.class_attributes entries_of (location.Class version.1)) attributes _ (covers_class_attributes entries_of (location.Class version.1))))))))
 
-pub class_is_outline : (given : List ℕ) (c : Value) → Spells layouts.class given c → Spells outline given tt
-class_is_outline given c s = (covers_class.holds given c s).1
+pub class_is_outline : (versions : Versions) (given : List ℕ) (c : Value) → Spells (layouts.class versions) given c → Spells outline given tt
+class_is_outline versions given c s = ((covers_class versions).holds given c s).1

@@ -15,28 +15,28 @@ use Rattle.classfile.specs.Laws.{OneClass, OneSpelling, ClassOrFault, NoFaultInC
 use Rattle.classfile.specs.private.Pieces.{writes_class}
 
 pub same_class : OneClass
-same_class bytes c d s t = (one_reading class bytes bytes [] c d s.spelled t.spelled (sym (append-nil bytes))).1
+same_class versions bytes c d s t = (one_reading (class versions) bytes bytes [] c d s.spelled t.spelled (sym (append-nil bytes))).1
 
 pub same_spelling : OneSpelling
-same_spelling c a b fit gif s t = no_other writes_class c a b fit gif s.spelled t.spelled
+same_spelling versions c a b fit gif s t = no_other (writes_class versions) c a b fit gif s.spelled t.spelled
 
 pub one_or_other : ClassOrFault
-one_or_other bytes = by_length (ltb MAX_CLASS_BYTES (length bytes)) refl
+one_or_other versions bytes = by_length (ltb MAX_CLASS_BYTES (length bytes)) refl
   where
-    by_bytes : length bytes ≤ MAX_CLASS_BYTES → ((c : Class) × Spells class bytes c) ⊎ ((e : ReadFault) × WholeFault class BytesAfter bytes e) → ((c : Class) × IsClass bytes c) ⊎ ((e : ReadFault) × ClassFault bytes e)
+    by_bytes : length bytes ≤ MAX_CLASS_BYTES → ((c : Class) × Spells (class versions) bytes c) ⊎ ((e : ReadFault) × WholeFault (class versions) BytesAfter bytes e) → ((c : Class) × IsClass versions bytes c) ⊎ ((e : ReadFault) × ClassFault versions bytes e)
     by_bytes le (inl (c, s)) = inl (c, record { within = le; spelled = s })
     by_bytes le (inr (e, f)) = inr (e, inr (le, f))
 
-    by_length : (b : Bool) → ltb MAX_CLASS_BYTES (length bytes) ≡ b → ((c : Class) × IsClass bytes c) ⊎ ((e : ReadFault) × ClassFault bytes e)
+    by_length : (b : Bool) → ltb MAX_CLASS_BYTES (length bytes) ≡ b → ((c : Class) × IsClass versions bytes c) ⊎ ((e : ReadFault) × ClassFault versions bytes e)
     by_length true t = inr (_, inl (ltb-true _ _ t, refl))
-    by_length false t = by_bytes (ltb-false _ _ t) (whole_or_fault class BytesAfter bytes)
+    by_length false t = by_bytes (ltb-false _ _ t) (whole_or_fault (class versions) BytesAfter bytes)
 
 pub not_both : NoFaultInClass
-not_both bytes c e s (inl (long, is)) = let le = s.within in omega (arith, long, le)
-not_both bytes c e s (inr (le, f)) = no_fault_in_whole class BytesAfter bytes c e s.spelled f
+not_both versions bytes c e s (inl (long, is)) = let le = s.within in omega (arith, long, le)
+not_both versions bytes c e s (inr (le, f)) = no_fault_in_whole (class versions) BytesAfter bytes c e s.spelled f
 
 pub same_fault : OneFault
-same_fault bytes e f (inl (long, is)) (inl (far, also)) = is ∙ sym also
-same_fault bytes e f (inl (long, is)) (inr (le, h)) = absurd (omega (arith, long, le))
-same_fault bytes e f (inr (le, h)) (inl (long, is)) = absurd (omega (arith, long, le))
-same_fault bytes e f (inr (le, h)) (inr (ge, k)) = one_whole_fault class BytesAfter bytes e f h k
+same_fault versions bytes e f (inl (long, is)) (inl (far, also)) = is ∙ sym also
+same_fault versions bytes e f (inl (long, is)) (inr (le, h)) = absurd (omega (arith, long, le))
+same_fault versions bytes e f (inr (le, h)) (inl (long, is)) = absurd (omega (arith, long, le))
+same_fault versions bytes e f (inr (le, h)) (inr (ge, k)) = one_whole_fault (class versions) BytesAfter bytes e f h k

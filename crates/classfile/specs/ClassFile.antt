@@ -1,6 +1,6 @@
 -- The layout of class files (JVMS 4.1, 4.5 to 4.7): which bytes spell which class, and which fault comes first.
 -- Each layout is the parts that stand one after the other, in the order of the file.
-use Rattle.std.specs.Prelude.{◌≡◌, ℕ, ◌-◌, ◌≤◌, ◌<◌, Bool, List, Option, Some, None, length, nat_le, nat_eq, ◌&&◌, ◌||◌, if◌then◌else◌, ◌⊎◌}
+use Rattle.std.specs.Prelude.{◌≡◌, ℕ, ◌-◌, ◌≤◌, ◌<◌, Bool, List, Option, Some, None, length, nat_eq, if◌then◌else◌, ◌⊎◌}
 use Rattle.layout.specs.Format.{Format, Spells, done, part, refuse, andthen, number, times, inside}
 use Rattle.layout.specs.Whole.{WholeFault}
 use Rattle.layout.specs.declared.limits.TheConstants.{MAX_CLASS_BYTES}
@@ -9,6 +9,8 @@ use Rattle.layout.specs.declared.fault.ReadFault.TheVariants.{AttributeLength, B
 use Rattle.pool.specs.Entries.{Entry, pool}
 use Rattle.classfile.specs.declared.location.Location.{Location}
 use Rattle.classfile.specs.declared.location.Location.TheVariants as location
+use Rattle.classfile.specs.declared.versions.Versions.{Versions}
+use Rattle.classfile.specs.Versions.{is_version}
 use Rattle.classfile.specs.Locations.{is_code, is_stack_map, is_record}
 use Rattle.classfile.specs.Layouts.{AttributeLayout, has_layout, layout_at}
 use Rattle.classfile.specs.Values.{AttributeOf, of_parts, of_numbers, raw, Handler, Nested, CodeBody, Attribute, Member, Component, ClassAttribute, Class}
@@ -116,22 +118,19 @@ class_attribute pool place = andthen attribute_info (λ a.
 unfoldable pub class_attributes : List Entry → Location → Format (List ClassAttribute)
 class_attributes pool place = table (class_attribute pool place)
 
--- major versions 51 to 55 with any minor version, 56 to 61 with 0
-abbrev pub is_version : ℕ → ℕ → Bool
-is_version minor major = nat_le 51 major && nat_le major 61 && (nat_le major 55 || nat_eq minor 0)
-
 -- the magic number and the version, the minor one first
-unfoldable pub version : Format (ℕ × ℕ)
-version = andthen (number 4) (λ magic. if nat_eq magic 0xCAFEBABE
+unfoldable pub version : Versions → Format (ℕ × ℕ)
+version versions = andthen (number 4) (λ magic. if nat_eq magic 0xCAFEBABE
     then andthen (number 2) (λ minor. andthen (number 2)
-    (λ major. if is_version minor major then done (minor, major) else refuse (λ at. BadVersion major minor)))
+    (λ major. if is_version versions minor major then done (minor, major)
+    else refuse (λ at. BadVersion major minor)))
     else refuse (λ at. BadMagic))
 
 unfoldable pub interfaces : Format (List ℕ)
 interfaces = table (number 2)
 
-unfoldable pub class : Format Class
-class = andthen version (λ version. andthen pool (λ pool. andthen three (λ head. andthen interfaces (λ interfaces.
+unfoldable pub class : Versions → Format Class
+class versions = andthen (version versions) (λ version. andthen pool (λ pool. andthen three (λ head. andthen interfaces (λ interfaces.
     andthen (members pool location.Field)
     (λ fields. andthen (members pool location.Method)
     (λ methods. andthen (class_attributes pool (location.Class version.1)) (λ attributes.
@@ -148,14 +147,14 @@ class = andthen version (λ version. andthen pool (λ pool. andthen three (λ he
       attributes = attributes;
     }))))))))
 
--- All the bytes, at most 16,777,216 of them, are a class file, and spell this class.
-pub record IsClass (bytes : List ℕ) (c : Class) : Type 0 where
+-- All the bytes, at most 16,777,216 of them, are a class file of one of these versions, and spell this class.
+pub record IsClass (versions : Versions) (bytes : List ℕ) (c : Class) : Type 0 where
   pub within : length bytes ≤ MAX_CLASS_BYTES
-  pub spelled : Spells class bytes c
+  pub spelled : Spells (class versions) bytes c
 
 -- The first fault in the order of the file: more bytes than a class file may have goes before all others;
 -- then the first part that is not whole or breaks its rule; then bytes after a class.
-abbrev pub ClassFault : List ℕ → ReadFault → Type 0
-ClassFault bytes e =
+abbrev pub ClassFault : Versions → List ℕ → ReadFault → Type 0
+ClassFault versions bytes e =
     ((MAX_CLASS_BYTES < length bytes) × (e ≡ TooLong 0))
-    ⊎ ((length bytes ≤ MAX_CLASS_BYTES) × WholeFault class BytesAfter bytes e)
+    ⊎ ((length bytes ≤ MAX_CLASS_BYTES) × WholeFault (class versions) BytesAfter bytes e)

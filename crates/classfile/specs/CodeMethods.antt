@@ -6,7 +6,7 @@ use Rattle.names.specs.Types.{type_of}
 use Rattle.classfile.specs.declared.code_method.CodeMethod.{CodeMethod}
 use Rattle.classfile.specs.declared.form.Formed.{Formed}
 use Rattle.classfile.specs.declared.profile.Profile.{Profile}
-use Rattle.classfile.specs.declared.profile.Profile.TheVariants.{Default, Dynamic}
+use Rattle.classfile.specs.declared.profile.Profile.TheVariants.{Default, Dynamic, Release}
 use Rattle.classfile.specs.Values.{Class}
 use Rattle.classfile.specs.Methods.{JudgedClass, Method, method_of}
 use Rattle.classfile.specs.MethodParts.{params_at, method_by_parts}
@@ -20,6 +20,7 @@ judged_class f = record { file = class_view f.class.now; dynamic = f.dynamic }
 abbrev pub judges_dynamic : Profile → Bool
 judges_dynamic Default = false
 judges_dynamic Dynamic = true
+judges_dynamic (Release n) = true
 
 -- a class by a profile
 abbrev pub judged : Profile → Class → JudgedClass

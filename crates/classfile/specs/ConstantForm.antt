@@ -117,16 +117,16 @@ name_and_type_conditions pool name descriptor =
     ∷ (BadDescriptor, is_no_descriptor pool descriptor)
     ∷ []
 
--- a field or a method of any kind (4.4.8)
-abbrev pub method_handle_conditions : List Entry → ℕ → List Condition
-method_handle_conditions pool reference =
-    (BadIndex, is_bad pool reference) ∷ (WrongKind, is_other pool kinds.Reference reference) ∷ []
+-- a field or a method of any kind (4.4.8); class files have such constants from major version 51 on (table 4.4-B)
+abbrev pub method_handle_conditions : ℕ → List Entry → ℕ → List Condition
+method_handle_conditions major pool reference =
+    (BadIndex, is_bad pool reference) ∷ (WrongKind, is_other pool kinds.Reference reference || nat_lt major 51) ∷ []
 
--- 4.4.9
-abbrev pub method_type_conditions : List Entry → ℕ → List Condition
-method_type_conditions pool descriptor =
+-- 4.4.9; from major version 51 on (table 4.4-B)
+abbrev pub method_type_conditions : ℕ → List Entry → ℕ → List Condition
+method_type_conditions major pool descriptor =
     (BadIndex, is_bad pool descriptor)
-    ∷ (WrongKind, is_other pool kinds.Utf8 descriptor)
+    ∷ (WrongKind, is_other pool kinds.Utf8 descriptor || nat_lt major 51)
     ∷ (BadDescriptor, is_no_method_descriptor pool descriptor)
     ∷ []
 
@@ -138,10 +138,11 @@ dynamic_conditions major pool named =
     ∷ (BadDescriptor, is_no_field pool named)
     ∷ []
 
--- a method's name and type (4.4.10)
-abbrev pub invoke_dynamic_conditions : List Entry → ℕ → List Condition
-invoke_dynamic_conditions pool named =
-    (BadIndex, is_bad pool named) ∷ (WrongKind, is_other pool kinds.NameAndType named)
+-- a method's name and type (4.4.10); from major version 51 on (table 4.4-B)
+abbrev pub invoke_dynamic_conditions : ℕ → List Entry → ℕ → List Condition
+invoke_dynamic_conditions major pool named =
+    (BadIndex, is_bad pool named)
+    ∷ (WrongKind, is_other pool kinds.NameAndType named || nat_lt major 51)
     ∷ (BadDescriptor, is_no_method pool named) ∷ []
 
 -- texts were judged when they were read, and numbers are as they are
@@ -157,8 +158,8 @@ constant_conditions major pool (Fieldref class named) = field_conditions pool cl
 constant_conditions major pool (Methodref class named) = method_conditions pool class named
 constant_conditions major pool (InterfaceMethodref class named) = interface_method_conditions pool class named
 constant_conditions major pool (NameAndType name descriptor) = name_and_type_conditions pool name descriptor
-constant_conditions major pool (MethodHandle kind reference) = method_handle_conditions pool reference
-constant_conditions major pool (MethodType descriptor) = method_type_conditions pool descriptor
+constant_conditions major pool (MethodHandle kind reference) = method_handle_conditions major pool reference
+constant_conditions major pool (MethodType descriptor) = method_type_conditions major pool descriptor
 constant_conditions major pool (Dynamic bootstrap named) = dynamic_conditions major pool named
-constant_conditions major pool (InvokeDynamic bootstrap named) = invoke_dynamic_conditions pool named
+constant_conditions major pool (InvokeDynamic bootstrap named) = invoke_dynamic_conditions major pool named
 constant_conditions major pool Unusable = []

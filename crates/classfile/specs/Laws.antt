@@ -5,27 +5,33 @@ use Rattle.std.specs.Prelude.{◌≡◌, ℕ, true, List, [], ◌∷◌, length,
 use Rattle.layout.specs.Format.{AreBytes, Format, Spells, done, andthen, number, times}
 use Rattle.layout.specs.declared.fault.ReadFault.{ReadFault}
 use Rattle.classfile.specs.declared.layouts.Column.{Column}
+use Rattle.classfile.specs.declared.versions.Versions.{Versions}
 use Rattle.classfile.specs.Layouts.{AttributeLayout, has_layout}
 use Rattle.classfile.specs.Numbers.{rows_of}
 use Rattle.classfile.specs.Values.{Class}
 use Rattle.classfile.specs.ClassFile.{table, IsClass, ClassFault}
 
 abbrev pub OneClass : Type 0
-OneClass = (bytes : List ℕ) (c d : Class) → IsClass bytes c → IsClass bytes d → c ≡ d
+OneClass = (versions : Versions) (bytes : List ℕ) (c d : Class) → IsClass versions bytes c → IsClass versions bytes d
+    → c ≡ d
 
 abbrev pub OneSpelling : Type 0
-OneSpelling = (c : Class) (a b : List ℕ) → AreBytes a → AreBytes b → IsClass a c → IsClass b c → a ≡ b
+OneSpelling = (versions : Versions) (c : Class) (a b : List ℕ) → AreBytes a → AreBytes b → IsClass versions a c
+    → IsClass versions b c → a ≡ b
 
 -- every list of bytes is a class or has a fault
 abbrev pub ClassOrFault : Type 0
-ClassOrFault = (bytes : List ℕ) → ((c : Class) × IsClass bytes c) ⊎ ((e : ReadFault) × ClassFault bytes e)
+ClassOrFault = (versions : Versions) (bytes : List ℕ) → ((c : Class) × IsClass versions bytes c)
+    ⊎ ((e : ReadFault) × ClassFault versions bytes e)
 
 -- not both
 abbrev pub NoFaultInClass : Type 0
-NoFaultInClass = (bytes : List ℕ) (c : Class) (e : ReadFault) → IsClass bytes c → ClassFault bytes e → ⊥
+NoFaultInClass = (versions : Versions) (bytes : List ℕ) (c : Class) (e : ReadFault) → IsClass versions bytes c
+    → ClassFault versions bytes e → ⊥
 
 abbrev pub OneFault : Type 0
-OneFault = (bytes : List ℕ) (e f : ReadFault) → ClassFault bytes e → ClassFault bytes f → e ≡ f
+OneFault = (versions : Versions) (bytes : List ℕ) (e f : ReadFault) → ClassFault versions bytes e
+    → ClassFault versions bytes f → e ≡ f
 
 -- ---- the numbers of an attribute
 

@@ -29,15 +29,15 @@ counted major name columns = record { name = name; first_major = major; once = t
 
 -- the same in one that may stand often
 abbrev often : List ℕ → List Column → AttributeLayout
-often name columns = record { name = name; first_major = 51; once = false; counted = true; columns = columns }
+often name columns = record { name = name; first_major = 45; once = false; counted = true; columns = columns }
 
 -- an attribute that says all by its name, and may stand often
 abbrev mark : List ℕ → AttributeLayout
-mark name = record { name = name; first_major = 51; once = false; counted = false; columns = [] }
+mark name = record { name = name; first_major = 45; once = false; counted = false; columns = [] }
 
 -- one row of a text, in each of the tables that may have a generic signature (4.7.9)
 abbrev pub signature : AttributeLayout
-signature = one 51 (codes "Signature") (Text ∷ [])
+signature = one 49 (codes "Signature") (Text ∷ [])
 
 -- those of classes, fields and methods alike (4.7.9, 4.7.15, 4.7.8)
 abbrev pub shared : List AttributeLayout
@@ -51,21 +51,22 @@ permitted_subclasses = counted 61 (codes "PermittedSubclasses") (columns.Class �
 -- 4.7.13) and record components (4.7.30)
 abbrev pub layouts_in : Location → List AttributeLayout
 layouts_in (Class major) =
-    one 51 (codes "SourceFile") (Text ∷ [])
-    ∷ counted 51 (codes "InnerClasses") (columns.Class ∷ ClassOrZero ∷ TextOrZero ∷ Plain ∷ [])
+    one 45 (codes "SourceFile") (Text ∷ [])
+    ∷ counted 45 (codes "InnerClasses") (columns.Class ∷ ClassOrZero ∷ TextOrZero ∷ Plain ∷ [])
     ∷ one 55 (codes "NestHost") (columns.Class ∷ [])
     ∷ counted 55 (codes "NestMembers") (columns.Class ∷ [])
     ∷ permitted_subclasses
     ∷ shared
-layouts_in Field = one 51 (codes "ConstantValue") (Value ∷ []) ∷ shared
-layouts_in Method = counted 51 (codes "Exceptions") (columns.Class ∷ []) ∷ shared
+layouts_in Field = one 45 (codes "ConstantValue") (Value ∷ []) ∷ shared
+layouts_in Method = counted 45 (codes "Exceptions") (columns.Class ∷ []) ∷ shared
 layouts_in Code =
     often (codes "LineNumberTable") (Plain ∷ Plain ∷ [])
     ∷ often (codes "LocalVariableTable") (Plain ∷ Plain ∷ Text ∷ Text ∷ Plain ∷ [])
     ∷ []
 layouts_in RecordComponent = signature ∷ []
 
--- the version on which it hangs what stands there; it does so in the attributes of classes alone
+-- The version on which it hangs what stands there; it does so in the attributes of classes alone. Of members and code
+-- each attribute of the table is read, in class files of any version.
 abbrev pub major_at : Location → ℕ
 major_at (Class major) = major
 major_at Field = 51

@@ -31,6 +31,7 @@ pub mod Seen
 pub mod Sizes
 pub mod TextNumbers
 pub mod Values
+pub mod Versions
 pub mod Views
 pub mod WellFormed
 pub mod private

@@ -2,12 +2,13 @@
 -- it has a fault.
 use Rattle.std.specs.Prelude.{◌≡◌, ℕ, List, ◌++◌, ◌⊎◌}
 use Rattle.layout.specs.declared.fault.ReadFault.{ReadFault}
+use Rattle.classfile.specs.declared.versions.Versions.{Versions}
 use Rattle.classfile.specs.Values.{Class}
 use Rattle.classfile.specs.ClassFile.{IsClass}
 use Rattle.classfile.specs.Outline.{IsOutline, OutlineFault}
 
 abbrev pub ClassIsOutline : Type 0
-ClassIsOutline = (bytes : List ℕ) (c : Class) → IsClass bytes c → IsOutline bytes
+ClassIsOutline = (versions : Versions) (bytes : List ℕ) (c : Class) → IsClass versions bytes c → IsOutline bytes
 
 -- so no front of an outline is one
 abbrev pub OneOutline : Type 0

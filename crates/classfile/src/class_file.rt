@@ -2,7 +2,7 @@
 ghost use Rattle.std.specs.Prelude.{◌≡◌, map};
 ghost use Rattle.layout.specs.Faults.{GoesOn};
 ghost use Rattle.layout.specs.Pieces.{Goes, field, marked};
-ghost use Rattle.classfile.specs.ClassFile.{interfaces, members, class_attributes, is_version, version, class};
+ghost use Rattle.classfile.specs.ClassFile.{interfaces, members, class_attributes, version, class};
 ghost use Rattle.classfile.specs.private.Pieces.{version_pieces, tables_pieces, behind_pool_pieces, pieces_with, class_pieces};
 ghost use Rattle.classfile.specs.Views.{member_view, class_attribute_view, class_view};
 
@@ -10,6 +10,7 @@ use crate::class_attribute::ClassAttribute;
 use crate::location::Location;
 use crate::member::{Member, put_three, three};
 use crate::table::{Item, put_table, take_table};
+use crate::versions::Versions;
 use layout::{Cursor, Output, ReadFault, WriteFault};
 use pool::{Pool, put_pool, read_pool};
 use std::alloc::Global;
@@ -70,23 +71,17 @@ impl<'a> Item<'a> for u16 {
     }
 }
 
-fn is_version(minor: u16, major: u16) -> bool
-    ensures { result ≡ is_version minor major }
-{
-    major >= 51 && major <= 61 && (major <= 55 || minor == 0)
-}
-
-/// The magic number and the version.
+/// The magic number and the version, which is one of these.
 #[tactic(auto, unfolding(crate::specs::ClassFile::version))]
-fn version(cursor: &mut Cursor<'_>) -> Result<(u16, u16), ReadFault>
-    ensures { GoesOn version (λ x. x) cursor.old cursor.new result }
+fn version(versions: Versions, cursor: &mut Cursor<'_>) -> Result<(u16, u16), ReadFault>
+    ensures { GoesOn (version versions) (λ x. x) cursor.old cursor.new result }
 {
     if cursor.u4()? != 0xCAFE_BABE {
         return Err(ReadFault::BadMagic);
     }
     let minor = cursor.u2()?;
     let major = cursor.u2()?;
-    if is_version(minor, major) {
+    if versions.take(minor, major) {
         Ok((minor, major))
     } else {
         Err(ReadFault::BadVersion { major, minor })
@@ -129,12 +124,16 @@ fn class_attributes<'a>(
     take_table::<ClassAttribute<'a>>(alloc, pool, location, cursor)
 }
 
-/// A class file, from its magic number to its attributes.
+/// A class file of one of these versions, from its magic number to its attributes.
 #[tactic(auto, using(crate::proofs::Steps::steps), unfolding(crate::specs::ClassFile::class))]
-pub fn class<'a>(alloc: Global, cursor: &mut Cursor<'a>) -> Result<ClassFile<'a>, ReadFault>
-    ensures { GoesOn class class_view cursor.old cursor.new result }
+pub fn class<'a>(
+    alloc: Global,
+    versions: Versions,
+    cursor: &mut Cursor<'a>,
+) -> Result<ClassFile<'a>, ReadFault>
+    ensures { GoesOn (class versions) class_view cursor.old cursor.new result }
 {
-    let (minor_version, major_version) = version(cursor)?;
+    let (minor_version, major_version) = version(versions, cursor)?;
     let constant_pool = read_pool(alloc, cursor)?;
     let (access_flags, this_class, super_class) = three(cursor)?;
     let interfaces = interfaces(alloc, &constant_pool, cursor)?;
@@ -168,12 +167,17 @@ fn put_marked(out: &mut Output, fine: bool, n: u16) -> Result<(), WriteFault>
 }
 
 #[tactic(auto, using(layout::specs::PieceLaws::writes_append))]
-fn put_version(out: &mut Output, minor: u16, major: u16) -> Result<(), WriteFault>
-    ensures { Goes (version_pieces (minor, major)) out.old out.new result }
+fn put_version(
+    out: &mut Output,
+    versions: Versions,
+    minor: u16,
+    major: u16,
+) -> Result<(), WriteFault>
+    ensures { Goes (version_pieces versions (minor, major)) out.old out.new result }
 {
     out.put_u4(0xCAFE_BABE)?;
     out.put_u2(minor)?;
-    put_marked(out, is_version(minor, major), major)
+    put_marked(out, versions.take(minor, major), major)
 }
 
 #[tactic(auto, using(layout::specs::PieceLaws::writes_append))]
@@ -202,18 +206,27 @@ fn put_behind_pool(
 }
 
 #[tactic(auto, using(layout::specs::PieceLaws::writes_append))]
-fn put_all(out: &mut Output, pool: &Pool<'_>, class: &ClassFile<'_>) -> Result<(), WriteFault>
-    ensures { Goes (pieces_with pool.now (class_view class.now)) out.old out.new result }
+fn put_all(
+    out: &mut Output,
+    versions: Versions,
+    pool: &Pool<'_>,
+    class: &ClassFile<'_>,
+) -> Result<(), WriteFault>
+    ensures { Goes (pieces_with versions pool.now (class_view class.now)) out.old out.new result }
 {
-    put_version(out, class.minor_version, class.major_version)?;
+    put_version(out, versions, class.minor_version, class.major_version)?;
     put_pool(out, pool)?;
     put_behind_pool(out, pool, class)
 }
 
-/// Writes a class file, from its magic number to its attributes.
+/// Writes a class file of one of these versions, from its magic number to its attributes.
 #[tactic(auto, unfolding(crate::specs::private::Pieces::class_pieces))]
-pub fn put_class(out: &mut Output, class: &ClassFile<'_>) -> Result<(), WriteFault>
-    ensures { Goes (class_pieces (class_view class.now)) out.old out.new result }
+pub fn put_class(
+    out: &mut Output,
+    versions: Versions,
+    class: &ClassFile<'_>,
+) -> Result<(), WriteFault>
+    ensures { Goes (class_pieces versions (class_view class.now)) out.old out.new result }
 {
-    put_all(out, &class.constant_pool, class)
+    put_all(out, versions, &class.constant_pool, class)
 }

@@ -297,23 +297,32 @@ fn name_and_type_rule(
     }
 }
 
-fn method_handle_rule(pool: &Pool<'_>, reference: u16) -> Option<FormRule>
-    ensures { result ≡ broken_rule (method_handle_conditions pool.now reference) }
+fn method_handle_rule(major: u16, pool: &Pool<'_>, reference: u16) -> Option<FormRule>
+    ensures { result ≡ broken_rule (method_handle_conditions major pool.now reference) }
 {
     if lacks(pool, ConstantKind::Reference, reference) {
         Some(index_rule(is_bad(pool, reference)))
+    } else if major < 51 {
+        Some(FormRule::WrongKind)
     } else {
         None
     }
 }
 
-fn method_type_rule(pool: &Pool<'_>, forms: &mut TextForms, descriptor: u16) -> Option<FormRule>
+fn method_type_rule(
+    major: u16,
+    pool: &Pool<'_>,
+    forms: &mut TextForms,
+    descriptor: u16,
+) -> Option<FormRule>
     requires { AreForms pool.now forms.now }
-    ensures told { result ≡ broken_rule (method_type_conditions pool.now descriptor) }
+    ensures told { result ≡ broken_rule (method_type_conditions major pool.now descriptor) }
     ensures kept { AreForms pool.now forms.new }
 {
     if lacks(pool, ConstantKind::Utf8, descriptor) {
         Some(index_rule(is_bad(pool, descriptor)))
+    } else if major < 51 {
+        Some(FormRule::WrongKind)
     } else if is_no_method_descriptor(pool, forms, descriptor) {
         Some(FormRule::BadDescriptor)
     } else {
@@ -337,13 +346,20 @@ fn dynamic_rule(major: u16, pool: &Pool<'_>, forms: &mut TextForms, named: u16) 
     }
 }
 
-fn invoke_dynamic_rule(pool: &Pool<'_>, forms: &mut TextForms, named: u16) -> Option<FormRule>
+fn invoke_dynamic_rule(
+    major: u16,
+    pool: &Pool<'_>,
+    forms: &mut TextForms,
+    named: u16,
+) -> Option<FormRule>
     requires { AreForms pool.now forms.now }
-    ensures told { result ≡ broken_rule (invoke_dynamic_conditions pool.now named) }
+    ensures told { result ≡ broken_rule (invoke_dynamic_conditions major pool.now named) }
     ensures kept { AreForms pool.now forms.new }
 {
     if lacks(pool, ConstantKind::NameAndType, named) {
         Some(index_rule(is_bad(pool, named)))
+    } else if major < 51 {
+        Some(FormRule::WrongKind)
     } else if is_no_method(pool, forms, named) {
         Some(FormRule::BadDescriptor)
     } else {
@@ -387,10 +403,11 @@ pub fn constant_rule(
         Constant::NameAndType { name, descriptor } => name_and_type_rule(
             pool, forms, name, descriptor,
         ),
-        Constant::MethodHandle { reference, .. } => method_handle_rule(pool, reference),
-        Constant::MethodType { descriptor } => method_type_rule(pool, forms, descriptor),
+        Constant::MethodHandle { reference, .. } => method_handle_rule(major, pool, reference),
+        Constant::MethodType { descriptor } => method_type_rule(major, pool, forms, descriptor),
         Constant::Dynamic { name_and_type, .. } => dynamic_rule(major, pool, forms, name_and_type),
         Constant::InvokeDynamic { name_and_type, .. } => invoke_dynamic_rule(
+            major,
             pool,
             forms,
             name_and_type,

@@ -11,7 +11,8 @@ use thiserror::Error;
 pub enum FormRule {
     /// 20: an index is 0 where it may not be, past the pool, or the second one of a Long or Double.
     BadIndex,
-    /// 21: an index leads to another kind of constant, or a Dynamic stands in a class below major version 55.
+    /// 21: an index leads to another kind of constant, or a constant of its kind may not stand in a class of this major
+    /// version.
     WrongKind,
     /// 22: a name is not of its form, or an array stands where none may (JVMS 4.2, 4.4.1, 4.4.2, 4.6).
     BadName,

@@ -51,41 +51,41 @@ macro_rules! attributes {
 
 /// The layouts of attributes of classes.
 static CLASS_LAYOUTS: [AttributeLayout<'static>; 8] = attributes! {
-    "SourceFile"          51 true  false [Text];
-    "InnerClasses"        51 true  true  [Class, ClassOrZero, TextOrZero, Plain];
+    "SourceFile"          45 true  false [Text];
+    "InnerClasses"        45 true  true  [Class, ClassOrZero, TextOrZero, Plain];
     "NestHost"            55 true  false [Class];
     "NestMembers"         55 true  true  [Class];
     "PermittedSubclasses" 61 true  true  [Class];
-    "Signature"           51 true  false [Text];
-    "Deprecated"          51 false false [];
-    "Synthetic"           51 false false [];
+    "Signature"           49 true  false [Text];
+    "Deprecated"          45 false false [];
+    "Synthetic"           45 false false [];
 };
 
 /// The layouts of attributes of fields.
 static FIELD_LAYOUTS: [AttributeLayout<'static>; 4] = attributes! {
-    "ConstantValue" 51 true  false [Value];
-    "Signature"     51 true  false [Text];
-    "Deprecated"    51 false false [];
-    "Synthetic"     51 false false [];
+    "ConstantValue" 45 true  false [Value];
+    "Signature"     49 true  false [Text];
+    "Deprecated"    45 false false [];
+    "Synthetic"     45 false false [];
 };
 
 /// The layouts of attributes of methods.
 static METHOD_LAYOUTS: [AttributeLayout<'static>; 4] = attributes! {
-    "Exceptions" 51 true  true  [Class];
-    "Signature"  51 true  false [Text];
-    "Deprecated" 51 false false [];
-    "Synthetic"  51 false false [];
+    "Exceptions" 45 true  true  [Class];
+    "Signature"  49 true  false [Text];
+    "Deprecated" 45 false false [];
+    "Synthetic"  45 false false [];
 };
 
 /// The layouts of attributes of Code attributes.
 static CODE_LAYOUTS: [AttributeLayout<'static>; 2] = attributes! {
-    "LineNumberTable"    51 false true [Plain, Plain];
-    "LocalVariableTable" 51 false true [Plain, Plain, Text, Text, Plain];
+    "LineNumberTable"    45 false true [Plain, Plain];
+    "LocalVariableTable" 45 false true [Plain, Plain, Text, Text, Plain];
 };
 
 /// The layouts of attributes of components of records.
 static COMPONENT_LAYOUTS: [AttributeLayout<'static>; 1] = attributes! {
-    "Signature" 51 true false [Text];
+    "Signature" 49 true false [Text];
 };
 
 /// The layouts of the attributes of numbers that may stand in a table.

@@ -22,11 +22,11 @@
 //! | `layouts` | attributes of numbers of two bytes, and how their bodies are laid out: [`AttributeLayout`] |
 //! | `numbers` | [`Numbers`] of an attribute, row by row |
 //! | `table` | a count and so many items, for all tables of a class file |
-//! | `codec` | the two calls |
+//! | `codec` | from bytes to a class, and back |
 //! | `outline`, `reading` | [`read_class`], and how far a class reaches in a stream |
 //! | `file_parts`, `skipping` | [`fault_part`], in which part of a file a fault of its bytes lies |
 //! | `form` | [`form_check`], [`Formed`], and the places one after the other |
-//! | `profile` | [`Profile`], how the methods of a class are judged |
+//! | `profile`, `versions` | [`Profile`], how the methods of a class are judged, and [`Versions`] that it takes |
 //! | `form_fault` | [`FormRule`], [`Place`] and [`FormFault`] |
 //! | `constant_form`, `class_form`, `member_form`, `attribute_form` | which rule is broken at a place |
 //! | `number_form` | which rule is broken by an index in an attribute of numbers |
@@ -81,6 +81,7 @@ mod skipping;
 mod table;
 mod text_forms;
 mod text_numbers;
+mod versions;
 
 pub use attribute::Attribute;
 pub use attribute_fault::{attribute_at_fault, attribute_name};
@@ -89,7 +90,7 @@ pub use class_attribute::ClassAttribute;
 pub use class_file::ClassFile;
 pub use code::{CodeAttr, ExceptionHandler};
 pub use code_method::CodeMethod;
-pub use codec::{decode, encode};
+pub use codec::{decode, decode_under, encode, encode_under};
 pub use component::Component;
 pub use file_parts::{FilePart, fault_part};
 pub use form::{Formed, form_check};
@@ -107,3 +108,4 @@ pub use numbers::Numbers;
 pub use own_fields::{OwnFields, declares_field};
 pub use profile::Profile;
 pub use reading::{CutShort, read_class};
+pub use versions::Versions;

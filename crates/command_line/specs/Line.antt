@@ -1,13 +1,16 @@
 -- The command lines that the program knows, and what each asks for.
-use Rattle.std.specs.Prelude.{◌≡◌, Bool, true, false, List, [], ◌∷◌, map, codes, Option, Some, Result, Ok, Err, string_bytes, bytes_eq, if◌then◌else◌, ◌++◌, length}
+use Rattle.std.specs.Prelude.{◌≡◌, Bool, true, false, List, [], ◌∷◌, map, codes, Option, Some, Result, Ok, Err, string_bytes, bytes_eq, if◌then◌else◌, ◌++◌, ◌&&◌, nat_lt, None, ℕ, length}
 use Rattle.std.specs.Option.{option_map, unwrap_or}
+use Rattle.std.specs.Str.Parse.{digits_value, without_leading_plus}
 use Rattle.clap.specs.Lexer.{usize_max}
+use Rattle.clap.specs.ValueTests.{is_numeral}
+use Rattle.clap.specs.declared.builder.value_parser.ValueParser.TheVariants.{Unsigned}
 use Rattle.clap.specs.declared.builder.action.ArgAction.TheVariants.{SetTrue, Append}
 use Rattle.clap.specs.declared.error.Error.{Error}
 use Rattle.clap.specs.declared.error.kind.ErrorKind.TheVariants as kind
 use Rattle.clap.specs.Words.{App, Row, Rule, Shape, Text, all_of, new_app, new_rule, with_rule, with_subcommand, subcommand_of, fault_of, Kinds, IsAmong, kind_of}
 use Rattle.classfile.specs.declared.profile.Profile.{Profile}
-use Rattle.classfile.specs.declared.profile.Profile.TheVariants.{Default, Dynamic}
+use Rattle.classfile.specs.declared.profile.Profile.TheVariants.{Default, Dynamic, Release}
 use Rattle.answers.specs.declared.command.Command.{Command}
 use Rattle.answers.specs.declared.command.Command.TheVariants.{Check, Show, Verify, Explain, Play, VerifyEach}
 use Rattle.answers.specs.declared.command.Form.{Form}
@@ -24,11 +27,15 @@ file = record (new_rule (codes "FILE")) { required = true }
 abbrev pub json : Rule
 json = record (new_rule (codes "json")) { long = Some (codes "json"); action = Some SetTrue }
 
+-- `--release N`: as Java SE N, of 7 to 27
+abbrev pub release : Rule
+release = record (new_rule (codes "N")) { long = Some (codes "release"); parser = Some (Unsigned 7 27) }
+
 abbrev pub check : Shape
-check = (with_rule (with_rule (new_app (codes "check")) file) json).top
+check = (with_rule (with_rule (with_rule (new_app (codes "check")) file) release) json).top
 
 abbrev pub show : Shape
-show = (with_rule (new_app (codes "show")) file).top
+show = (with_rule (with_rule (new_app (codes "show")) file) release).top
 
 -- the file of the class that is verified, and any number of files of classes that it may refer to
 abbrev pub class_file : Rule
@@ -45,13 +52,13 @@ abbrev pub dynamic : Rule
 dynamic = record (new_rule (codes "dynamic")) { long = Some (codes "dynamic"); action = Some SetTrue }
 
 abbrev pub verify : Shape
-verify = (with_rule (with_rule
-    (with_rule (with_rule (new_app (codes "verify")) class_file) known_files) dynamic) json).top
+verify = (with_rule (with_rule (with_rule
+    (with_rule (with_rule (new_app (codes "verify")) class_file) known_files) dynamic) release) json).top
 
 -- `explain` takes the same words
 abbrev pub explain : Shape
-explain = (with_rule (with_rule
-    (with_rule (with_rule (new_app (codes "explain")) class_file) known_files) dynamic) json).top
+explain = (with_rule (with_rule (with_rule
+    (with_rule (with_rule (new_app (codes "explain")) class_file) known_files) dynamic) release) json).top
 
 -- the files of the classes that are in play, of which there is one at least
 abbrev pub class_files : Rule
@@ -62,7 +69,7 @@ class_files = record (new_rule (codes "CLASS")) {
 }
 
 abbrev pub play : Shape
-play = (with_rule (with_rule (new_app (codes "play")) class_files) dynamic).top
+play = (with_rule (with_rule (with_rule (new_app (codes "play")) class_files) dynamic) release).top
 
 -- any number of files of other classes that they may refer to, after `--known`
 abbrev pub known_option : Rule
@@ -74,7 +81,8 @@ known_option = record (new_rule (codes "KNOWN")) {
 }
 
 abbrev pub verify_each : Shape
-verify_each = (with_rule (with_rule (with_rule (new_app (codes "verify-each")) class_files) known_option) dynamic).top
+verify_each = (with_rule (with_rule (with_rule
+    (with_rule (new_app (codes "verify-each")) class_files) known_option) dynamic) release).top
 
 -- the program itself, which prints its version, and takes one of the commands
 abbrev pub program : App
@@ -104,8 +112,8 @@ words_for name rows = unwrap_or (all_of name rows) []
 
 -- the files that the words after a command name
 abbrev pub files_in : Command → List Row → List Text
-files_in (Check form) rows = words_for (codes "FILE") rows
-files_in Show rows = words_for (codes "FILE") rows
+files_in (Check form profile) rows = words_for (codes "FILE") rows
+files_in (Show profile) rows = words_for (codes "FILE") rows
 files_in (Verify form profile) rows = words_for (codes "CLASS") rows ++ words_for (codes "KNOWN") rows
 files_in (Explain form profile) rows = words_for (codes "CLASS") rows ++ words_for (codes "KNOWN") rows
 files_in (Play profile) rows = words_for (codes "CLASS") rows
@@ -119,20 +127,36 @@ is_true _ = false
 abbrev pub form_in : List Row → Form
 form_in rows = if is_true (words_for (codes "json") rows) then Json else Plain
 
+-- the number of eight bits that a word is
+abbrev pub number_of : Text → Option ℕ
+number_of word =
+    let digits = without_leading_plus word in
+    if is_numeral digits && nat_lt (digits_value 10 digits) 256 then Some (digits_value 10 digits) else None
+
+-- the number after `--release`
+abbrev pub release_of : List Text → Option ℕ
+release_of (word ∷ []) = number_of word
+release_of _ = None
+
+-- as a release; or, where none is named, with dynamic calls or without them
+abbrev pub profile_of : Option ℕ → Bool → Profile
+profile_of (Some number) is_dynamic = Release number
+profile_of None is_dynamic = if is_dynamic then Dynamic else Default
+
 abbrev pub profile_in : List Row → Profile
-profile_in rows = if is_true (words_for (codes "dynamic") rows) then Dynamic else Default
+profile_in rows = profile_of (release_of (words_for (codes "N") rows)) (is_true (words_for (codes "dynamic") rows))
 
 -- the command of a name, with the form, the profile and the classes that the words after it ask for; `clap` takes no
 -- other name than theirs
 abbrev pub command_named : Text → List Row → Command
 command_named name rows =
-    if bytes_eq name (codes "show") then Show
+    if bytes_eq name (codes "show") then Show (profile_in rows)
     else if bytes_eq name (codes "verify") then Verify (form_in rows) (profile_in rows)
     else if bytes_eq name (codes "explain") then Explain (form_in rows) (profile_in rows)
     else if bytes_eq name (codes "play") then Play (profile_in rows)
     else if bytes_eq name (codes "verify-each")
     then VerifyEach (profile_in rows) (length (words_for (codes "CLASS") rows))
-    else Check (form_in rows)
+    else Check (form_in rows) (profile_in rows)
 
 -- the request that the matches of a line make
 abbrev pub asked : Option (Text × List Row) → Option (Command × List Text)

@@ -2,10 +2,11 @@
 ghost use Rattle.std.specs.Prelude.{◌≡◌, ◌++◌, IfOk, OnOk, codes, false, length, map, string_bytes};
 ghost use Rattle.clap.specs.Words.{Kinds, HasKind, app_of, rule_of, rows_of, found_of, new_app, with_rule};
 ghost use Rattle.clap.specs.declared.builder.command.Command.TheViews.{out-Command};
-ghost use Rattle.command_line.specs.Line.{line, line_of_file, line_with_known, line_with_play, file, json, class_file, known_files, class_files, known_option, dynamic, IsFault, ToldBy, Asks, is_true, form_in, profile_in, command_named, words_for, files_in};
+ghost use Rattle.command_line.specs.Line.{line, line_of_file, line_with_known, line_with_play, file, json, class_file, known_files, class_files, known_option, dynamic, release, release_of, IsFault, ToldBy, Asks, is_true, form_in, profile_in, command_named, words_for, files_in};
 
 use crate::line::{LineFault, Request};
 use answers::{Command, Form};
+use clap::builder::ValueParser;
 use clap::{Arg, ArgAction, ArgMatches, Command as Parser};
 use classfile::Profile;
 use std::alloc::{AllocError, Global};
@@ -90,15 +91,37 @@ Behind `file NUMBER CLASS` stand the lines that `verify` prints of the class, wh
 first counts. A class that is refused is left out. So is a class below it, or below a class that is not given: it is refused 80, and
 `verify` of it alone says why. docs/REFUSALS.md explains the numbers.";
 
-/// A command that takes one file: `NAME FILE`.
+/// `--release N`
+fn release<'a>(alloc: Global) -> Arg<'a>
+    ensures rule { rule_of result ≡ release }
+    ensures local { result.global ≡ false }
+{
+    Arg::new(alloc, "N")
+        .long("release")
+        .value_parser(ValueParser::unsigned(7, 27))
+        .help(
+            "Takes classes of the versions that Java SE N reads, 7 to 27, and judges invokedynamic",
+        )
+}
+
+/// The file of a command that takes one.
+fn file<'a>(alloc: Global) -> Arg<'a>
+    ensures rule { rule_of result ≡ file }
+    ensures local { result.global ≡ false }
+{
+    Arg::new(alloc, "FILE")
+        .required(true)
+        .help("The path of a class file")
+}
+
+/// A command that takes one file: `NAME --release N FILE`.
 fn one_file<'a>(alloc: Global, name: &'a str) -> Result<Parser<'a>, AllocError>
-    ensures app { IfOk result (λ c. app_of c ≡ with_rule (new_app name.now) file) }
+    ensures app { IfOk result (λ c. app_of c ≡ with_rule (with_rule (new_app name.now) file) release) }
     ensures local { IfOk result (λ c. (out-Command c).has_globals ≡ false) }
 {
-    let file = Arg::new(alloc, "FILE")
-        .required(true)
-        .help("The path of a class file");
-    Parser::new(alloc, name).arg(file)
+    Parser::new(alloc, name)
+        .arg(file(alloc))?
+        .arg(release(alloc))
 }
 
 /// `--json`
@@ -112,9 +135,10 @@ fn json<'a>(alloc: Global) -> Arg<'a>
         .help("Prints objects of JSON, each on a line of its own")
 }
 
-/// `check --json FILE`
+/// `check --release N --json FILE`
 fn check<'a>(alloc: Global) -> Result<Parser<'a>, AllocError>
-    ensures app { IfOk result (λ c. app_of c ≡ with_rule (with_rule (new_app (codes "check")) file) json) }
+    ensures app { IfOk result (λ c. app_of c
+        ≡ with_rule (with_rule (with_rule (new_app (codes "check")) file) release) json) }
     ensures local { IfOk result (λ c. (out-Command c).has_globals ≡ false) }
 {
     let command = one_file(alloc, "check")?.arg(json(alloc))?;
@@ -125,9 +149,9 @@ fn check<'a>(alloc: Global) -> Result<Parser<'a>, AllocError>
     )
 }
 
-/// `show FILE`
+/// `show --release N FILE`
 fn show<'a>(alloc: Global) -> Result<Parser<'a>, AllocError>
-    ensures app { IfOk result (λ c. app_of c ≡ with_rule (new_app (codes "show")) file) }
+    ensures app { IfOk result (λ c. app_of c ≡ with_rule (with_rule (new_app (codes "show")) file) release) }
     ensures local { IfOk result (λ c. (out-Command c).has_globals ≡ false) }
 {
     let command = one_file(alloc, "show")?;
@@ -169,6 +193,15 @@ fn dynamic<'a>(alloc: Global) -> Arg<'a>
         .help("Judges invokedynamic and dynamic constants as well, which are refused 60 otherwise")
 }
 
+/// A command that judges classes, and takes `--dynamic` and `--release N`.
+fn judging<'a>(alloc: Global, command: Parser<'a>) -> Result<Parser<'a>, AllocError>
+    requires { (out-Command command).has_globals ≡ false }
+    ensures app { IfOk result (λ c. app_of c ≡ with_rule (with_rule (app_of command.entry) dynamic) release) }
+    ensures local { IfOk result (λ c. (out-Command c).has_globals ≡ false) }
+{
+    command.arg(dynamic(alloc))?.arg(release(alloc))
+}
+
 /// A command of this name that takes the file of a class and those of known ones.
 fn class_and_known<'a>(alloc: Global, name: &'a str) -> Result<Parser<'a>, AllocError>
     ensures app { IfOk result (λ c. app_of c ≡ with_rule (with_rule (new_app name.now) class_file) known_files) }
@@ -179,16 +212,14 @@ fn class_and_known<'a>(alloc: Global, name: &'a str) -> Result<Parser<'a>, Alloc
         .arg(known_files(alloc))
 }
 
-/// `verify --dynamic --json CLASS KNOWN...`
+/// `verify --dynamic --release N --json CLASS KNOWN...`
 fn verify<'a>(alloc: Global) -> Result<Parser<'a>, AllocError>
     ensures app { IfOk result (λ c. app_of c
-        ≡ with_rule (with_rule (with_rule
-        (with_rule (new_app (codes "verify")) class_file) known_files) dynamic) json) }
+        ≡ with_rule (with_rule (with_rule (with_rule
+        (with_rule (new_app (codes "verify")) class_file) known_files) dynamic) release) json) }
     ensures local { IfOk result (λ c. (out-Command c).has_globals ≡ false) }
 {
-    let command = class_and_known(alloc, "verify")?
-        .arg(dynamic(alloc))?
-        .arg(json(alloc))?;
+    let command = judging(alloc, class_and_known(alloc, "verify")?)?.arg(json(alloc))?;
     Ok(
         command
             .about("Prints the verdict on each method of a class")
@@ -196,16 +227,14 @@ fn verify<'a>(alloc: Global) -> Result<Parser<'a>, AllocError>
     )
 }
 
-/// `explain --dynamic --json CLASS KNOWN...`
+/// `explain --dynamic --release N --json CLASS KNOWN...`
 fn explain<'a>(alloc: Global) -> Result<Parser<'a>, AllocError>
     ensures app { IfOk result (λ c. app_of c
-        ≡ with_rule (with_rule (with_rule
-        (with_rule (new_app (codes "explain")) class_file) known_files) dynamic) json) }
+        ≡ with_rule (with_rule (with_rule (with_rule
+        (with_rule (new_app (codes "explain")) class_file) known_files) dynamic) release) json) }
     ensures local { IfOk result (λ c. (out-Command c).has_globals ≡ false) }
 {
-    let command = class_and_known(alloc, "explain")?
-        .arg(dynamic(alloc))?
-        .arg(json(alloc))?;
+    let command = judging(alloc, class_and_known(alloc, "explain")?)?.arg(json(alloc))?;
     Ok(
         command
             .about("Prints each method of a class that is refused, and why")
@@ -232,12 +261,13 @@ fn all_classes<'a>(alloc: Global) -> Result<Parser<'a>, AllocError>
     Parser::new(alloc, "play").arg(class_files(alloc))
 }
 
-/// `play --dynamic CLASS...`
+/// `play --dynamic --release N CLASS...`
 fn play<'a>(alloc: Global) -> Result<Parser<'a>, AllocError>
-    ensures app { IfOk result (λ c. app_of c ≡ with_rule (with_rule (new_app (codes "play")) class_files) dynamic) }
+    ensures app { IfOk result (λ c. app_of c
+        ≡ with_rule (with_rule (with_rule (new_app (codes "play")) class_files) dynamic) release) }
     ensures local { IfOk result (λ c. (out-Command c).has_globals ≡ false) }
 {
-    let command = all_classes(alloc)?.arg(dynamic(alloc))?;
+    let command = judging(alloc, all_classes(alloc)?)?;
     Ok(
         command
             .about("Prints whether all methods of classes that run together are verified")
@@ -270,13 +300,14 @@ fn classes_and_known<'a>(alloc: Global) -> Result<Parser<'a>, AllocError>
         .arg(known_option(alloc))
 }
 
-/// `verify-each --dynamic CLASS... --known KNOWN...`
+/// `verify-each --dynamic --release N CLASS... --known KNOWN...`
 fn verify_each<'a>(alloc: Global) -> Result<Parser<'a>, AllocError>
     ensures app { IfOk result (λ c. app_of c
-        ≡ with_rule (with_rule (with_rule (new_app (codes "verify-each")) class_files) known_option) dynamic) }
+        ≡ with_rule (with_rule (with_rule
+        (with_rule (new_app (codes "verify-each")) class_files) known_option) dynamic) release) }
     ensures local { IfOk result (λ c. (out-Command c).has_globals ≡ false) }
 {
-    let command = classes_and_known(alloc)?.arg(dynamic(alloc))?;
+    let command = judging(alloc, classes_and_known(alloc)?)?;
     Ok(
         command
             .about("Prints the verdict on each method of each of many classes")
@@ -354,7 +385,7 @@ fn files(alloc: Global, command: Command, found: &ArgMatches<'_>) -> Result<Vec<
 {
     let mut files = Vec::new(alloc);
     match command {
-        Command::Check(_) | Command::Show => add_words(alloc, found, "FILE", &mut files)?,
+        Command::Check(_, _) | Command::Show(_) => add_words(alloc, found, "FILE", &mut files)?,
         Command::Verify(..) | Command::Explain(..) | Command::VerifyEach { .. } => {
             add_words(alloc, found, "CLASS", &mut files)?;
             add_words(alloc, found, "KNOWN", &mut files)?;
@@ -396,11 +427,31 @@ fn form(found: &ArgMatches<'_>) -> Form
     }
 }
 
+/// The number that follows `--release`.
+fn release_of(words: &[&str]) -> Option<u8>
+    ensures { result ≡ release_of (map (λ w. w.now) words.now) }
+{
+    match words {
+        [word] => word.parse().ok(),
+        _ => None,
+    }
+}
+
+/// The release that is named.
+#[tactic(auto, using(crate::proofs::Rows::raw_rows))]
+fn release_in(found: &ArgMatches<'_>) -> Option<u8>
+    ensures { result ≡ release_of (words_for (codes "N") (rows_of (found_of found.now))) }
+{
+    release_of(found.get_strs("N")?)
+}
+
 /// The profile that the words after a command name.
 fn profile(found: &ArgMatches<'_>) -> Profile
     ensures { result ≡ profile_in (rows_of (found_of found.now)) }
 {
-    if is_set(found, "dynamic") {
+    if let Some(number) = release_in(found) {
+        Profile::Release(number)
+    } else if is_set(found, "dynamic") {
         Profile::Dynamic
     } else {
         Profile::Default
@@ -422,7 +473,7 @@ fn command_named(name: &str, found: &ArgMatches<'_>) -> Command
     ensures { result ≡ command_named name.now (rows_of (found_of found.now)) }
 {
     if name == "show" {
-        Command::Show
+        Command::Show(profile(found))
     } else if name == "verify" {
         Command::Verify(form(found), profile(found))
     } else if name == "explain" {
@@ -435,7 +486,7 @@ fn command_named(name: &str, found: &ArgMatches<'_>) -> Command
             classes: count_words(found, "CLASS"),
         }
     } else {
-        Command::Check(form(found))
+        Command::Check(form(found), profile(found))
     }
 }
 

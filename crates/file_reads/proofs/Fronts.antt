@@ -1,17 +1,15 @@
 -- The bytes that were taken of a file stand in front of it.
-use Rattle.std.proofs.Common.{◌≡◌, ◌∙◌, ℕ, ◌+◌, ◌≤◌, List, [], ◌++◌, length, take, drop, Option, Some, None, Ok, sym, ap, subst, arith}
+use Rattle.std.proofs.Common.{◌≡◌, ◌∙◌, ℕ, ◌+◌, ◌-◌, ◌≤◌, List, [], ◌++◌, length, take, drop, Option, Some, None, sym, ap, subst, arith}
 use Rattle.std.proofs.lemmas.List.{take-append-drop, take_all, drop_all, append-nil, length-append, length-take}
 use Rattle.std.proofs.Math.Seq.{take-append-add, take-append_seam}
 use Rattle.std.specs.Prelude.{IfSome}
 use Rattle.std.specs.Io.KnownBytes.{Consumes}
-use Rattle.layout.specs.Format.{reads}
-use Rattle.layout.specs.FormatLaws.{reads_spells}
 use Rattle.layout.specs.StreamLaws.{spells_leads}
-use Rattle.layout.specs.Place.{Place}
 use Rattle.layout.specs.declared.fault.ReadFault.{ReadFault}
 use Rattle.layout.specs.declared.limits.TheConstants.{MAX_CLASS_BYTES}
 use Rattle.classfile.specs.Outline.{outline, IsOutline, Stopped}
 use Rattle.file_reads.specs.FileReads.{ReadsOn, BeginsWith}
+use Rattle.file_reads.specs.private.Passing.{Skips}
 
 pub taken_in_front : (before after : Option (List ℕ)) (given : List ℕ) → Consumes before after given → IfSome before (λ file. BeginsWith file given)
 taken_in_front None after given h = tt
@@ -45,17 +43,12 @@ copied_is_read n file given outline is = record {
   one_more = is;
 }
 
--- the outline that a walk over the file passed
-pub passed_is_outline : (file : List ℕ) (start p : Place) (v : Unit {0}) (n : ℕ) → start ≡ record { at = 0; rest = file } → reads outline start.at start.rest ≡ Ok (v, p)
-    → n ≡ p.at → n ≤ MAX_CLASS_BYTES → (n ≤ length file) × IsOutline (take n file)
-passed_is_outline file start p v n begins read ends within =
-    let there : reads outline 0 file ≡ Ok (v, p) = subst (λ (s : Place). reads outline s.at s.rest ≡ Ok (v, p)) begins read in
-    let found = reads_spells outline 0 file (v, p) there in
-    let front = found.0 in
-    let took = found.2 in
-    let at : n ≡ length front = omega (arith, ends, took.at) in
-    let same : take n file ≡ front = ap (λ (k : ℕ). take k file) at ∙ ap (take (length front)) took.parts ∙ take-append_seam front p.rest in
-    let leads : IsOutline front = spells_leads outline 0 front tt found.1 (omega (arith, at, within)) in (
-      let parts = ap length took.parts in omega (arith, parts, length-append front p.rest, at),
-      subst IsOutline (sym same) leads,
-    )
+-- the outline that a walk over the file passed, up to the rest of it
+pub passed_is_outline : (file rest : List ℕ) → Skips outline file rest → length file - length rest ≤ MAX_CLASS_BYTES → IsOutline (take (length file - length rest) file)
+passed_is_outline file rest passed within =
+    let front = passed.front in
+    let parts : file ≡ front ++ rest = passed.parts in
+    let at : length file - length rest ≡ length front = let long = ap length parts in omega (arith, long, length-append front rest) in
+    let same : take (length file - length rest) file ≡ front =
+    ap (λ (k : ℕ). take k file) at ∙ ap (take (length front)) parts ∙ take-append_seam front rest in
+    subst IsOutline (sym same) (spells_leads outline 0 front tt passed.spelled (omega (arith, at, within)))

@@ -7,7 +7,7 @@ ghost use Rattle.file_reads.specs.FileReads.{ReadsOn, BeginsWith};
 use crate::outline::outline;
 use crate::reading::read_whole;
 use classfile::CutShort;
-use layout::{Cursor, MAX_CLASS_BYTES, ReadFault};
+use layout::{MAX_CLASS_BYTES, ReadFault};
 use std::alloc::Global;
 
 /// How many bytes the outline takes with which the file begins; `None` where it begins with none, or may.
@@ -15,9 +15,8 @@ fn class_length(file: &[u8]) -> Option<usize>
     ensures within { IfSome result (λ n. n ≤ length file.now) }
     ensures outline { IfSome result (λ n. IsOutline (take n file.now)) }
 {
-    let mut cursor = Cursor::new(file);
-    outline(&mut cursor)?;
-    let count = cursor.at();
+    let rest = outline(file)?;
+    let count = file.len() - rest.len();
     if count <= MAX_CLASS_BYTES {
         Some(count)
     } else {
@@ -67,8 +66,9 @@ pub fn read_bytes(alloc: Global, file: &[u8]) -> Result<Vec<u8>, CutShort>
     let Some(count) = class_length(file) else {
         return read_part_by_part(alloc, file);
     };
-    match front(file, count).to_vec(alloc) {
-        Ok(bytes) => Ok(bytes),
+    let mut bytes = Vec::new(alloc);
+    match bytes.extend_from_slice(front(file, count)) {
+        Ok(()) => Ok(bytes),
         Err(_) => Err(CutShort {
             bytes: Vec::new(alloc),
             why: ReadFault::OutOfMemory,

@@ -1,235 +1,228 @@
-//! How far the outline of a class file reaches in bytes that are in memory (JVMS 4.1, 4.4 to 4.7). `None` stands for
-//! bytes that begin with no outline.
-ghost use Rattle.std.specs.Prelude.{false};
+//! How far the outline of a class file reaches in bytes that are in memory (JVMS 4.1, 4.4 to 4.7). Each call returns
+//! the bytes behind a part of it, or `None` where the bytes do not begin with such a part.
+ghost use Rattle.std.specs.Prelude.{◌≡◌, ◌≤◌, IfSome, drop, length, false};
 ghost use Rattle.layout.specs.Format.{number};
-ghost use Rattle.classfile.specs.Outline.{bytes, text, both, wide, constant, is_wide, tagged, indexed, constants, pool, attribute, attributes, numbers, member, members, interfaces, behind_pool, head, outline, repeated};
-ghost use Rattle.file_reads.specs.private.Passing.{Passes};
+ghost use Rattle.classfile.specs.Outline.{bytes, tagged, indexed, constants, pool, attribute, attributes, numbers, member, members, interfaces, behind_pool, head, outline, repeated};
+ghost use Rattle.file_reads.specs.private.Passing.{Passes, Skips, Takes};
 
-use layout::Cursor;
+use byteorder::{BigEndian, ByteOrder};
 
-/// A number of two bytes.
-fn u2(cursor: &mut Cursor<'_>) -> Option<u16>
-    ensures { Passes (number 2) cursor.old cursor.new result }
+/// The bytes behind so many.
+fn skip(bytes: &[u8], n: usize) -> Option<&[u8]>
+    ensures within { IfSome result (λ rest. n ≤ length bytes.now) }
+    ensures rest { IfSome result (λ rest. rest.now ≡ drop n bytes.now) }
 {
-    match cursor.u2() {
-        Ok(number) => Some(number),
-        Err(_) => None,
+    let (_, rest) = bytes.split_at_checked(n)?;
+    Some(rest)
+}
+
+/// A number of two bytes, and the bytes behind it.
+#[tactic(auto, using(crate::proofs::Outlines::number_front))]
+fn u2(bytes: &[u8]) -> Option<(u16, &[u8])>
+    ensures { IfSome result (λ x. Passes (number 2) bytes.now x.1.now x.0) }
+{
+    let (front, rest) = bytes.split_at_checked(2)?;
+    Some((BigEndian::read_u16(front), rest))
+}
+
+/// How many bytes a constant takes, its tag too, and whether it takes a second index.
+#[derive(Clone, Copy)]
+struct Extent {
+    length: usize,
+    is_wide: bool,
+}
+
+/// The extent of a constant of one index.
+fn narrow(length: usize) -> Extent
+    ensures { result ≡ record { length = length; is_wide = false } }
+{
+    Extent {
+        length,
+        is_wide: false,
     }
 }
 
-/// So many bytes, whatever they are.
-#[tactic(auto, using(crate::proofs::Outlines::steps))]
-fn bytes(cursor: &mut Cursor<'_>, n: usize) -> Option<()>
-    ensures { Passes (bytes n) cursor.old cursor.new result }
-{
-    cursor.part(n).ok()?;
-    Some(())
-}
-
-/// A text: its length, and so many bytes (JVMS 4.4.7).
-#[tactic(auto, using(crate::proofs::Outlines::steps), unfolding(classfile::specs::Outline::text))]
-fn text(cursor: &mut Cursor<'_>) -> Option<()>
-    ensures { Passes text cursor.old cursor.new result }
-{
-    let length = u2(cursor)?;
-    bytes(cursor, length as usize)
-}
-
-/// Two parts of so many bytes.
-#[tactic(auto, using(crate::proofs::Outlines::steps), unfolding(classfile::specs::Outline::both))]
-fn both(cursor: &mut Cursor<'_>, first: usize, second: usize) -> Option<()>
-    ensures { Passes (both first second) cursor.old cursor.new result }
-{
-    cursor.part(first).ok()?;
-    bytes(cursor, second)
-}
-
-/// The body of a Long or Double, whose tag was just read: the last index has none after it (JVMS 4.4.5).
-#[tactic(auto, using(crate::proofs::Outlines::steps), unfolding(classfile::specs::Outline::wide))]
-fn wide(cursor: &mut Cursor<'_>, last: bool, tag: u8) -> Option<()>
-    ensures { Passes (wide last tag) cursor.old cursor.new result }
-{
-    if last { None } else { both(cursor, 4, 4) }
-}
-
-/// The body of a constant, whose tag was just read (JVMS 4.4).
-#[tactic(auto, using(crate::proofs::Outlines::steps), unfolding(classfile::specs::Outline::constant))]
-fn constant(cursor: &mut Cursor<'_>, last: bool, tag: u8) -> Option<()>
-    ensures { Passes (constant last tag) cursor.old cursor.new result }
+/// The extent of a constant of which a class file has few (JVMS 4.4): the last index has none after it for a Long or
+/// Double (4.4.5).
+fn rare_extent(tag: u8, last: bool) -> Option<Extent>
+    ensures { IfSome result (Takes last tag) }
 {
     match tag {
-        // Utf8
-        1 => text(cursor),
         // Integer, Float
-        3 | 4 => bytes(cursor, 4),
+        3 | 4 => Some(narrow(5)),
         // Long, Double
-        5 | 6 => wide(cursor, last, tag),
-        // Class, String
-        7 | 8 => bytes(cursor, 2),
-        // Fieldref, Methodref
-        9 | 10 => both(cursor, 2, 2),
-        // InterfaceMethodref, NameAndType
-        11 | 12 => both(cursor, 2, 2),
+        5 | 6 => {
+            if last {
+                None
+            } else {
+                Some(Extent {
+                    length: 9,
+                    is_wide: true,
+                })
+            }
+        }
         // MethodHandle
-        15 => both(cursor, 1, 2),
+        15 => Some(narrow(4)),
         // MethodType
-        16 => bytes(cursor, 2),
+        16 => Some(narrow(3)),
         // Dynamic, InvokeDynamic
-        17 | 18 => both(cursor, 2, 2),
+        17 | 18 => Some(narrow(5)),
         _ => None,
     }
 }
 
-/// A constant, its tag first, and whether it takes a second index; `last` says that there is none.
-#[tactic(auto, using(crate::proofs::Outlines::steps), unfolding(classfile::specs::Outline::tagged))]
-fn tagged(cursor: &mut Cursor<'_>, last: bool) -> Option<bool>
-    ensures { Passes (tagged last) cursor.old cursor.new result }
+/// The extent of the constant with which the bytes begin (JVMS 4.4); `last` says that no second index is left.
+#[tactic(auto, using(crate::proofs::Extents::found_by))]
+fn extent_of(bytes: &[u8], last: bool) -> Option<Extent>
+    ensures { IfSome result (λ e. e.length ≤ length bytes.now
+        → Passes (tagged last) bytes.now (drop e.length bytes.now) e.is_wide) }
 {
-    let tag = cursor.u1().ok()?;
-    constant(cursor, last, tag)?;
-    Some(tag == 5 || tag == 6)
+    let (front, _) = bytes.split_at_checked(3)?;
+    match front[0] {
+        // Utf8
+        1 => Some(narrow(3 + BigEndian::read_u16(&front[1..]) as usize)),
+        // Class, String
+        7 | 8 => Some(narrow(3)),
+        // Fieldref, Methodref, InterfaceMethodref, NameAndType
+        9 | 10 | 11 | 12 => Some(narrow(5)),
+        tag => rare_extent(tag, last),
+    }
 }
 
 /// The entry at an index, and whether it takes the next one too.
-#[tactic(auto, using(crate::proofs::Outlines::steps), unfolding(classfile::specs::Outline::indexed))]
-fn indexed(cursor: &mut Cursor<'_>, second: bool, last: bool) -> Option<bool>
-    ensures { Passes (indexed second last) cursor.old cursor.new result }
+#[tactic(auto, unfolding(classfile::specs::Outline::indexed))]
+fn indexed(bytes: &[u8], second: bool, last: bool) -> Option<(bool, &[u8])>
+    ensures { IfSome result (λ x. Passes (indexed second last) bytes.now x.1.now x.0) }
 {
     if second {
-        Some(false)
-    } else {
-        tagged(cursor, last)
+        return Some((false, bytes));
     }
+    let extent = extent_of(bytes, last)?;
+    Some((extent.is_wide, skip(bytes, extent.length)?))
 }
 
 /// The constants of so many indices.
-fn constants(cursor: &mut Cursor<'_>, count: u16) -> Option<()>
-    ensures { Passes (constants count false) cursor.old cursor.new result }
+fn constants(bytes: &[u8], count: u16) -> Option<&[u8]>
+    ensures { IfSome result (λ rest. Skips (constants count false) bytes.now rest.now) }
 {
+    let mut rest = bytes;
     let mut second = false;
     for i in 0..count {
-        second = indexed(cursor, second, i + 1 == count)?;
+        (second, rest) = indexed(rest, second, i + 1 == count)?;
     }
-    Some(())
+    Some(rest)
 }
 
 /// The constant pool (JVMS 4.1).
-#[tactic(auto, using(crate::proofs::Outlines::steps), unfolding(classfile::specs::Outline::pool))]
-fn pool(cursor: &mut Cursor<'_>) -> Option<()>
-    ensures { Passes pool cursor.old cursor.new result }
+fn pool(bytes: &[u8]) -> Option<&[u8]>
+    ensures { IfSome result (λ rest. Skips pool bytes.now rest.now) }
 {
-    let count = u2(cursor)?;
+    let (count, rest) = u2(bytes)?;
     if count == 0 {
         return None;
     }
-    constants(cursor, count - 1)
+    constants(rest, count - 1)
 }
 
 /// So many numbers of two bytes.
-fn numbers(cursor: &mut Cursor<'_>, count: u16) -> Option<()>
-    ensures { Passes (numbers count) cursor.old cursor.new result }
+#[tactic(auto, using(crate::proofs::Outlines::numbers_front))]
+fn numbers(bytes: &[u8], count: u16) -> Option<&[u8]>
+    ensures { IfSome result (λ rest. Skips (numbers count) bytes.now rest.now) }
 {
-    for _ in 0..count {
-        u2(cursor)?;
-    }
-    Some(())
+    skip(bytes, 2 * count as usize)
 }
 
 /// An attribute (JVMS 4.7).
-#[tactic(auto, using(crate::proofs::Outlines::steps), unfolding(classfile::specs::Outline::attribute))]
-fn attribute(cursor: &mut Cursor<'_>) -> Option<()>
-    ensures { Passes attribute cursor.old cursor.new result }
+#[tactic(auto, using(crate::proofs::Outlines::attribute_front))]
+fn attribute(bytes: &[u8]) -> Option<&[u8]>
+    ensures { IfSome result (λ rest. Skips attribute bytes.now rest.now) }
 {
-    u2(cursor)?;
-    let length = cursor.u4().ok()?;
-    bytes(cursor, length as usize)
+    let (front, rest) = bytes.split_at_checked(6)?;
+    let length = BigEndian::read_u32(&front[2..]);
+    skip(rest, length as usize)
 }
 
 /// So many attributes.
-fn attributes_of(cursor: &mut Cursor<'_>, count: u16) -> Option<()>
-    ensures { Passes (repeated count attribute) cursor.old cursor.new result }
+fn attributes_of(bytes: &[u8], count: u16) -> Option<&[u8]>
+    ensures { IfSome result (λ rest. Skips (repeated count attribute) bytes.now rest.now) }
 {
+    let mut rest = bytes;
     for _ in 0..count {
-        attribute(cursor)?;
+        rest = attribute(rest)?;
     }
-    Some(())
+    Some(rest)
 }
 
 /// A table of attributes.
-#[tactic(auto, using(crate::proofs::Outlines::steps), unfolding(classfile::specs::Outline::attributes))]
-fn attributes(cursor: &mut Cursor<'_>) -> Option<()>
-    ensures { Passes attributes cursor.old cursor.new result }
+fn attributes(bytes: &[u8]) -> Option<&[u8]>
+    ensures { IfSome result (λ rest. Skips attributes bytes.now rest.now) }
 {
-    let count = u2(cursor)?;
-    attributes_of(cursor, count)
+    let (count, rest) = u2(bytes)?;
+    attributes_of(rest, count)
 }
 
 /// A field or a method (JVMS 4.5, 4.6).
-#[tactic(auto, using(crate::proofs::Outlines::steps), unfolding(classfile::specs::Outline::member))]
-fn member(cursor: &mut Cursor<'_>) -> Option<()>
-    ensures { Passes member cursor.old cursor.new result }
+fn member(bytes: &[u8]) -> Option<&[u8]>
+    ensures { IfSome result (λ rest. Skips member bytes.now rest.now) }
 {
-    numbers(cursor, 3)?;
-    attributes(cursor)
+    let rest = numbers(bytes, 3)?;
+    attributes(rest)
 }
 
 /// So many fields or methods.
-fn members_of(cursor: &mut Cursor<'_>, count: u16) -> Option<()>
-    ensures { Passes (repeated count member) cursor.old cursor.new result }
+fn members_of(bytes: &[u8], count: u16) -> Option<&[u8]>
+    ensures { IfSome result (λ rest. Skips (repeated count member) bytes.now rest.now) }
 {
+    let mut rest = bytes;
     for _ in 0..count {
-        member(cursor)?;
+        rest = member(rest)?;
     }
-    Some(())
+    Some(rest)
 }
 
 /// A table of fields or of methods.
-#[tactic(auto, using(crate::proofs::Outlines::steps), unfolding(classfile::specs::Outline::members))]
-fn members(cursor: &mut Cursor<'_>) -> Option<()>
-    ensures { Passes members cursor.old cursor.new result }
+fn members(bytes: &[u8]) -> Option<&[u8]>
+    ensures { IfSome result (λ rest. Skips members bytes.now rest.now) }
 {
-    let count = u2(cursor)?;
-    members_of(cursor, count)
+    let (count, rest) = u2(bytes)?;
+    members_of(rest, count)
 }
 
 /// The table of interfaces.
-#[tactic(auto, using(crate::proofs::Outlines::steps), unfolding(classfile::specs::Outline::interfaces))]
-fn interfaces(cursor: &mut Cursor<'_>) -> Option<()>
-    ensures { Passes interfaces cursor.old cursor.new result }
+fn interfaces(bytes: &[u8]) -> Option<&[u8]>
+    ensures { IfSome result (λ rest. Skips interfaces bytes.now rest.now) }
 {
-    let count = u2(cursor)?;
-    numbers(cursor, count)
+    let (count, rest) = u2(bytes)?;
+    numbers(rest, count)
 }
 
 /// The part after the constant pool.
-#[tactic(auto, using(crate::proofs::Outlines::steps), unfolding(classfile::specs::Outline::behind_pool))]
-fn behind_pool(cursor: &mut Cursor<'_>) -> Option<()>
-    ensures { Passes behind_pool cursor.old cursor.new result }
+fn behind_pool(bytes: &[u8]) -> Option<&[u8]>
+    ensures { IfSome result (λ rest. Skips behind_pool bytes.now rest.now) }
 {
-    numbers(cursor, 3)?;
-    interfaces(cursor)?;
-    members(cursor)?;
-    members(cursor)?;
-    attributes(cursor)
+    let rest = numbers(bytes, 3)?;
+    let rest = interfaces(rest)?;
+    let rest = members(rest)?;
+    let rest = members(rest)?;
+    attributes(rest)
 }
 
 /// The magic number and the version, which may be any.
-#[tactic(auto, using(crate::proofs::Outlines::steps), unfolding(classfile::specs::Outline::head))]
-fn head(cursor: &mut Cursor<'_>) -> Option<()>
-    ensures { Passes head cursor.old cursor.new result }
+fn head(bytes: &[u8]) -> Option<&[u8]>
+    ensures { IfSome result (λ rest. Skips head bytes.now rest.now) }
 {
-    if cursor.u4().ok()? != 0xCAFE_BABE {
+    let (front, rest) = bytes.split_at_checked(4)?;
+    if BigEndian::read_u32(front) != 0xCAFE_BABE {
         return None;
     }
-    numbers(cursor, 2)
+    numbers(rest, 2)
 }
 
 /// The outline of a class file.
-#[tactic(auto, using(crate::proofs::Outlines::steps), unfolding(classfile::specs::Outline::outline))]
-pub fn outline(cursor: &mut Cursor<'_>) -> Option<()>
-    ensures { Passes outline cursor.old cursor.new result }
+pub fn outline(bytes: &[u8]) -> Option<&[u8]>
+    ensures { IfSome result (λ rest. Skips outline bytes.now rest.now) }
 {
-    head(cursor)?;
-    pool(cursor)?;
-    behind_pool(cursor)
+    let rest = head(bytes)?;
+    let rest = pool(rest)?;
+    behind_pool(rest)
 }

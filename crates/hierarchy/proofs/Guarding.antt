@@ -15,10 +15,9 @@ use Rattle.hierarchy.specs.declared.spot.Spot.{Spot}
 use Rattle.hierarchy.specs.private.Above.{class_above, upward, classes_above, names_above, names_of, number_of, ArePlaces}
 use Rattle.hierarchy.specs.Answer.{on_chain}
 use Rattle.hierarchy.specs.Class.{ClassFact, class_of, world_of}
-use Rattle.hierarchy.specs.private.Flags.{AreNumbers, KeepNumbers, GetsNumber, IsStart, own, outside, begins, AreStarts, AreFlags, KeepsClass, first_flag}
+use Rattle.hierarchy.specs.private.Flags.{AreNumbers, KeepNumbers, GetsNumber, IsStart, IsMember, own, outside, begins, place_above, AreStarts, AreFlags, KeepsClass, first_flag}
 use Rattle.hierarchy.specs.Nearest.{MemberReference, nearest, is_elsewhere, is_protected_elsewhere, is_guarded}
 use Rattle.hierarchy.specs.Rules.{IsHierarchy}
-use Rattle.hierarchy.specs.Summary.{reference_of}
 use Rattle.hierarchy.proofs.Guards.{TextNumbers, behind, before, at_last, first_is}
 use Rattle.hierarchy.proofs.Names.{mapped, none_some, some_same}
 use Rattle.hierarchy.proofs.Nearby.{nearest_above}
@@ -176,6 +175,20 @@ module _ (places old new : TextNumbers) (class : List ℕ) (kept : KeepNumbers o
   starts_kept (r ∷ rs) [] a = a
   starts_kept (r ∷ rs) (o ∷ os) a = (start_kept r o a.0, starts_kept rs os a.1)
 
+pub none_above : (places numbers : TextNumbers) (class : List ℕ) (r : MemberReference) → None ≡ place_above places class r.class → IsStart places numbers class r None
+none_above places numbers class r is = by (bytes_eq r.class class) refl is
+  where
+    by : (b : Bool) → bytes_eq r.class class ≡ b → None ≡ cond b None (number_of places r.class) → IsStart places numbers class r None
+    by true e is = own (sym ((bytes_eq-Decides r.class class).0 e))
+    by false e is = outside (sym is)
+
+pub one_above : (places numbers : TextNumbers) (class : List ℕ) (r : MemberReference) (s : Spot) → Some s.place ≡ place_above places class r.class → IsMember numbers r s → IsStart places numbers class r (Some s)
+one_above places numbers class r s is member = by (bytes_eq r.class class) refl is
+  where
+    by : (b : Bool) → bytes_eq r.class class ≡ b → Some s.place ≡ cond b None (number_of places r.class) → IsStart places numbers class r (Some s)
+    by true e is = absurd (none_some (sym is))
+    by false e is = begins (λ same. false≢true (sym e ∙ (bytes_eq-Decides r.class class).1 (sym same))) (sym is) member
+
 pub zip_more : {A B : Type 0} (R : A → B → Type 0) (xs : List A) (ys : List B) (x : A) (y : B) → AllZip R xs ys → R x y → AllZip R (xs ++ x ∷ []) (ys ++ y ∷ [])
 zip_more R [] [] x y a r = (r, tt)
 zip_more R [] (v ∷ ys) x y a r = absurd a
@@ -189,14 +202,18 @@ map_more f xs i d lt = ap (map f) (take_more xs i d lt) ∙ each f (take i xs) (
     each f [] y = refl
     each f (x ∷ ys) y = ap (λ zs. f x ∷ zs) (each f ys y)
 
+pub map_twice : {A B C : Type 0} (f : B → C) (g : A → B) (xs : List A) → map f (map g xs) ≡ map (λ x. f (g x)) xs
+map_twice f g [] = refl
+map_twice f g (x ∷ xs) = ap (λ ys. f (g x) ∷ ys) (map_twice f g xs)
+
 -- the start of the next reference
-pub starts_next : (places old new : TextNumbers) (class : List ℕ) (rs : List MemberRef) (i : ℕ) (d : MemberRef) (os more : List (Option Spot)) (o : Option Spot)
-    → KeepNumbers old new → i < length rs → AreStarts places old class (map reference_of (take i rs)) os → IsStart places new class (reference_of (get_or rs i d)) o
-    → more ≡ os ++ o ∷ [] → AreStarts places new class (map reference_of (take (i + 1) rs)) more
-starts_next places old new class rs i d os more o kept lt starts start pushed =
-    let all = zip_more (IsStart places new class) (map reference_of (take i rs)) os (reference_of (get_or rs i d)) o (starts_kept places old new class kept (map reference_of (take i rs)) os starts) start in
-    let with_one = subst (λ xs. AreStarts places new class xs (os ++ o ∷ [])) (sym (map_more reference_of rs i d lt)) all in
-    subst (λ ys. AreStarts places new class (map reference_of (take (i + 1) rs)) ys) (sym pushed) with_one
+pub starts_next : (f : MemberRef → MemberReference) (places old new : TextNumbers) (class : List ℕ) (rs : List MemberRef) (i : ℕ) (d : MemberRef) (os more : List (Option Spot)) (o : Option Spot)
+    → KeepNumbers old new → i < length rs → AreStarts places old class (map f (take i rs)) os → IsStart places new class (f (get_or rs i d)) o
+    → more ≡ os ++ o ∷ [] → AreStarts places new class (map f (take (i + 1) rs)) more
+starts_next f places old new class rs i d os more o kept lt starts start pushed =
+    let all = zip_more (IsStart places new class) (map f (take i rs)) os (f (get_or rs i d)) o (starts_kept places old new class kept (map f (take i rs)) os starts) start in
+    let with_one = subst (λ xs. AreStarts places new class xs (os ++ o ∷ [])) (sym (map_more f rs i d lt)) all in
+    subst (λ ys. AreStarts places new class (map f (take (i + 1) rs)) ys) (sym pushed) with_one
 
 -- ---- what the first flags say
 

@@ -254,31 +254,31 @@ module _ (numbers : TextNumbers) (place : ℕ) (m : MemberFact) where
 
 module _ (numbers : TextNumbers) (class : List ℕ) (classes : List ClassFact) (c : Summary) (left : ℕ) (m : MemberSummary) (within : left < length c.members.items) (is : m ≡ get_or c.members.items left m) where
   abbrev members_from : ℕ → List MemberFact
-  members_from k = map member_of (drop k c.members.items)
+  members_from k = map (member_of c.texts.items) (drop k c.members.items)
 
-  one_more : member_of m ∷ members_from (left + 1) ≡ members_from left
-  one_more = sym (ap (map member_of) (drop_more c.members.items left m within ∙ ap (λ x. x ∷ drop (left + 1) c.members.items) (sym is)))
+  one_more : member_of c.texts.items m ∷ members_from (left + 1) ≡ members_from left
+  one_more = sym (ap (map (member_of c.texts.items)) (drop_more c.members.items left m within ∙ ap (λ x. x ∷ drop (left + 1) c.members.items) (sym is)))
 
-  pub without_spot : (old : BTreeMap Spot Bool) → spot_of numbers (length classes) (member_of m) ≡ None
+  pub without_spot : (old : BTreeMap Spot Bool) → spot_of numbers (length classes) (member_of c.texts.items m) ≡ None
       → AreFlags numbers class (classes ++ with_members (fact_of c) (members_from (left + 1)) ∷ []) old → AreFlags numbers class (classes ++ with_members (fact_of c) (members_from left) ∷ []) old
   without_spot old e kept =
       subst (λ ms. AreFlags numbers class (classes ++ with_members (fact_of c) ms ∷ []) old) one_more
-      (passed_over numbers class classes (fact_of c) (member_of m) (members_from (left + 1)) old (lacks_texts numbers (length classes) (member_of m) e) kept)
+      (passed_over numbers class classes (fact_of c) (member_of c.texts.items m) (members_from (left + 1)) old (lacks_texts numbers (length classes) (member_of c.texts.items m) e) kept)
 
-  pub with_spot : (old new : BTreeMap Spot Bool) (at : Spot) (flag : Bool) → AreNumbers numbers → spot_of numbers (length classes) (member_of m) ≡ Some at
+  pub with_spot : (old new : BTreeMap Spot Bool) (at : Spot) (flag : Bool) → AreNumbers numbers → spot_of numbers (length classes) (member_of c.texts.items m) ≡ Some at
       → flag ≡ (m.is_protected && is_elsewhere class c.name.now)
       → ((s : Spot) → flag_of new s ≡ cond (is_eq (spot_cmp at s)) (Some flag) (flag_of old s))
       → AreFlags numbers class (classes ++ with_members (fact_of c) (members_from (left + 1)) ∷ []) old → AreFlags numbers class (classes ++ with_members (fact_of c) (members_from left) ∷ []) new
   with_spot old new at flag good e f written kept =
-      let t = has_texts numbers (length classes) (member_of m) at e in
+      let t = has_texts numbers (length classes) (member_of c.texts.items m) at e in
       subst (λ ms. AreFlags numbers class (classes ++ with_members (fact_of c) ms ∷ []) new) one_more
-      (put_one numbers class classes (fact_of c) (member_of m) (members_from (left + 1)) old new at flag good t.0 t.1 t.2 t.3 f written kept)
+      (put_one numbers class classes (fact_of c) (member_of c.texts.items m) (members_from (left + 1)) old new at flag good t.0 t.1 t.2 t.3 f written kept)
 
 -- after the last member there is none
 pub no_members_kept : (numbers : TextNumbers) (class : List ℕ) (classes : List ClassFact) (c : Summary) (left : ℕ) (old : BTreeMap Spot Bool) → length c.members.items ≤ left
-    → AreFlags numbers class classes old → AreFlags numbers class (classes ++ with_members (fact_of c) (map member_of (drop left c.members.items)) ∷ []) old
+    → AreFlags numbers class classes old → AreFlags numbers class (classes ++ with_members (fact_of c) (map (member_of c.texts.items) (drop left c.members.items)) ∷ []) old
 no_members_kept numbers class classes c left old le kept =
-    subst (λ (ms : List MemberSummary). AreFlags numbers class (classes ++ with_members (fact_of c) (map member_of ms) ∷ []) old) (sym (all_dropped c.members.items left le))
+    subst (λ (ms : List MemberSummary). AreFlags numbers class (classes ++ with_members (fact_of c) (map (member_of c.texts.items) ms) ∷ []) old) (sym (all_dropped c.members.items left le))
     (none_kept numbers class classes (fact_of c) old kept)
   where
     all_dropped : {X : Type 0} (xs : List X) (k : ℕ) → length xs ≤ k → drop k xs ≡ []

@@ -24,4 +24,8 @@ pub mod Numbering
 pub mod InOrder
 pub mod Descent
 pub mod Numbered
+pub mod TextPlaces
+pub mod Putting
+pub mod Summarising
+pub mod SameSummaries
 pub mod Lookups

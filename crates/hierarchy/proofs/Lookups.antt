@@ -1,5 +1,5 @@
 -- Answers from what classes inherit.
-use Rattle.std.proofs.Common.{◌≡◌, ◌↔◌, inl, inr, ℕ, suc, ◌-◌, ◌<◌, Bool, true, false, not, IsTrue, List, [], get_or, length, nat_eq, slice_get, Option, Some, None, refl, ap, sym, ◌∙◌, subst, arith}
+use Rattle.std.proofs.Common.{◌≡◌, ◌↔◌, inl, inr, ℕ, suc, ◌-◌, ◌<◌, Bool, true, false, not, IsTrue, List, [], get_or, length, nat_eq, slice_get, Option, Some, None, IfSome, refl, ap, sym, ◌∙◌, subst, arith}
 use Rattle.std.specs.Borrow.{Bor}
 use Rattle.std.specs.Option.{option_map_or}
 use Rattle.std.proofs.lemmas.Bool.{false≢true, eqb-true, eqb-false}
@@ -10,7 +10,7 @@ use Rattle.hierarchy.specs.declared.inheritance.Inheritance.{Inheritance}
 use Rattle.hierarchy.specs.declared.summary.Summary.{Summary}
 use Rattle.hierarchy.specs.private.Ancestry.{facts_at, place_among}
 use Rattle.hierarchy.specs.Class.{ClassFact, IsSubclass}
-use Rattle.hierarchy.specs.private.Inheritance.{Inherits, has_length, IsCoded, IsInheritance, IsProtectedAt, free, kept, Tells}
+use Rattle.hierarchy.specs.private.Inheritance.{Inherits, has_length, IsCoded, IsInheritance, IsProtectedAt, LooksAt, above, free, kept, nowhere, Tells}
 use Rattle.hierarchy.specs.Nearest.{MemberReference, Declaration, IsNearest, is_guarded}
 use Rattle.hierarchy.specs.Rules.{IsHierarchy}
 use Rattle.hierarchy.specs.Summary.{fact_of}
@@ -92,6 +92,19 @@ module _ (classes : List ClassFact) (h : Inheritance) (is : IsInheritance classe
           missing = record { name = []; superclass = None; interface = false; is_final = false; members = [] }
       by (Some c) e = (c, e, is.inherit.each p c i e (read_at h.table.of.items p i lt read))
 
+  pub class_at : (p : ℕ) → p < length h.table.of.items → (c : ClassFact) × (slice_get all p ≡ Some c)
+  class_at p lt = by (slice_get all p) refl
+    where
+      inside : p < length all
+      inside = omega (arith, lt, long)
+
+      by : (o : Option ClassFact) → slice_get all p ≡ o → (c : ClassFact) × (slice_get all p ≡ Some c)
+      by None e = absurd (none_some (sym e ∙ slice_get-get_or all p missing inside))
+        where
+          missing : ClassFact
+          missing = record { name = []; superclass = None; interface = false; is_final = false; members = [] }
+      by (Some c) e = (c, e)
+
   pub inherits_of : (p : ℕ) (i : Inherited) (c : ClassFact) → p < length h.table.of.items → i ≡ get_or h.table.of.items p i → slice_get all p ≡ Some c
       → Inherits classes all h.numbers h.table.versions h.table.packages c i
   inherits_of p i c lt read at = is.inherit.each p c i at (read_at h.table.of.items p i lt read)
@@ -137,3 +150,21 @@ module _ (classes : List ClassFact) (h : Inheritance) (is : IsInheritance classe
         where
           y : (d : Declaration) × (slice_get all p ≡ Some d.class) × IsNearest classes r start_at.0.name d × (d.member.is_protected ≡ true)
           y = protected_some classes all r start_at.0.name p x
+
+-- ---- where a class looks
+
+pub looks_nowhere : (classes : List ClassFact) (h : Inheritance) (class : ℕ) (c : ClassFact) (name : List ℕ) → LooksAt classes h class c name None → (r : MemberReference) → r.class ≡ name
+    → false ≡ is_guarded classes c.name r
+looks_nowhere classes h class c name (nowhere f) r same = sym (f r same)
+
+pub looks_above : (classes : List ClassFact) (h : Inheritance) (class : ℕ) (c : ClassFact) (name : List ℕ) (p : ℕ) → LooksAt classes h class c name (Some p)
+    → (place_among classes h.ancestry.places name ≡ Some p) × (p ≡ class → ⊥) × ((d : ClassFact) → slice_get (facts_at h.ancestry.classes.items) p ≡ Some d → IsSubclass classes c.name d.name)
+looks_above classes h class c name p (above found apart sub) = (found, apart, sub)
+
+-- the place is one of the table
+pub looks_within : (classes : List ClassFact) (h : Inheritance) → IsInheritance classes h → (class : ℕ) (c : ClassFact) (name : List ℕ) (o : Option ℕ) → LooksAt classes h class c name o
+    → IfSome o (λ p. p < length h.table.of.items)
+looks_within classes h is class c name None looks = tt
+looks_within classes h is class c name (Some p) looks =
+    let d = is.ancestry.places.leads name p (looks_above classes h class c name p looks).0 in
+    within classes h is p d.0 d.1

@@ -2,7 +2,7 @@
 -- from its last member on.
 use Rattle.std.proofs.Common.{◌≡◌, ◌==◌, ℕ, zero, suc, ◌+◌, ◌<◌, ◌≤◌, Bool, true, false, cond, List, [], ◌∷◌, ◌++◌, drop, find, get_or, length, map, slice_get, take, Option, Some, None, IsSome, refl, ap, sym, ◌∙◌, subst, arith}
 use Rattle.std.specs.Borrow.{Bor}
-use Rattle.std.proofs.lemmas.Bool.{false≢true}
+use Rattle.std.proofs.lemmas.Bool.{eq-eqb, false≢true, ne_eqb}
 use Rattle.std.proofs.lemmas.List.{drop_more}
 use Rattle.hierarchy.specs.declared.member_numbers.MemberNumbers.{MemberNumbers}
 use Rattle.hierarchy.specs.declared.summary.MemberSummary.{MemberSummary}
@@ -10,14 +10,15 @@ use Rattle.hierarchy.specs.declared.summary.Summary.{Summary}
 use Rattle.hierarchy.specs.declared.versions.Versions.{Versions}
 use Rattle.hierarchy.specs.private.Ancestry.{facts_at}
 use Rattle.hierarchy.specs.Class.{MemberFact, ClassFact}
-use Rattle.hierarchy.specs.private.Inheritance.{Declares, HaveNumbers, KeepMembers, NumberAll, asked_number, declared_value}
+use Rattle.hierarchy.specs.private.Inheritance.{AreValues, Declares, HaveNumbers, KeepMembers, NumberAll, asked_number, declared_value}
 use Rattle.hierarchy.specs.private.MemberNumbers.{AreMemberNumbers, member_number}
 use Rattle.hierarchy.specs.Nearest.{MemberReference, is_named}
-use Rattle.hierarchy.specs.Summary.{fact_of, member_of}
-use Rattle.hierarchy.specs.private.Versions.{AreVersions, IsVersion, Puts, value_at}
-use Rattle.hierarchy.proofs.Descent.{keep_on, put_keeps}
+use Rattle.hierarchy.specs.Summary.{fact_of, member_of, text_among}
+use Rattle.hierarchy.specs.declared.versions.Put.{Put}
+use Rattle.hierarchy.specs.private.Versions.{PutsAll, put_in, value_at}
 use Rattle.hierarchy.proofs.Guarding.{map_more}
 use Rattle.hierarchy.proofs.Guards.{at_last, is_named_by, named_is}
+use Rattle.hierarchy.proofs.Putting.{put_last}
 use Rattle.hierarchy.proofs.Names.{none_some, some_same}
 
 -- ---- numbers
@@ -50,58 +51,56 @@ module _ (old new : MemberNumbers) (kept : KeepMembers old new) where
       by true e = subst (λ (y : ClassFact). HaveNumbers new y.members) (some_same e) here
       by false e = all_kept all have p x e
 
-pub members_next : (old new : MemberNumbers) (ms : List MemberSummary) (i : ℕ) (d : MemberSummary) → i < length ms → KeepMembers old new → HaveNumbers old (map member_of (take i ms))
-    → ((get_or ms i d).is_protected ≡ true → IsSome (member_number new (get_or ms i d).kind (get_or ms i d).name.now (get_or ms i d).descriptor.now)) → HaveNumbers new (map member_of (take (i + 1) ms))
-members_next old new ms i d lt kept have here =
-    subst (HaveNumbers new) (sym (map_more member_of ms i d lt)) (numbers_more old new kept (map member_of (take i ms)) (member_of (get_or ms i d)) have here)
+pub members_next : (old new : MemberNumbers) (texts : List (Bor (List ℕ))) (ms : List MemberSummary) (i : ℕ) (d : MemberSummary) → i < length ms → KeepMembers old new → HaveNumbers old (map (member_of texts) (take i ms))
+    → ((get_or ms i d).is_protected ≡ true → IsSome (member_number new (get_or ms i d).places.kind (text_among texts (get_or ms i d).places.name) (text_among texts (get_or ms i d).places.descriptor)))
+    → HaveNumbers new (map (member_of texts) (take (i + 1) ms))
+members_next old new texts ms i d lt kept have here =
+    subst (HaveNumbers new) (sym (map_more (member_of texts) ms i d lt)) (numbers_more old new kept (map (member_of texts) (take i ms)) (member_of texts (get_or ms i d)) have here)
 
 pub classes_next : (old new : MemberNumbers) (cs : List (Bor Summary)) (i : ℕ) (d : Bor Summary) → i < length cs → KeepMembers old new → NumberAll old (facts_at (take i cs))
-    → HaveNumbers new (map member_of (get_or cs i d).now.members.items) → NumberAll new (facts_at (take (i + 1) cs))
+    → HaveNumbers new (fact_of (get_or cs i d).now).members → NumberAll new (facts_at (take (i + 1) cs))
 classes_next old new cs i d lt kept have here =
     subst (NumberAll new) (sym (map_more (λ (s : Bor Summary). fact_of s.now) cs i d lt)) (all_more old new kept (facts_at (take i cs)) (fact_of (get_or cs i d).now) have here)
 
 -- ---- what a class declares
 
-module _ (numbers : MemberNumbers) (good : AreMemberNumbers numbers) (old now : Versions) (ms : List MemberFact) (m : MemberFact) (own above version : ℕ) (done : Declares numbers old now ms own above version) where
+module _ (numbers : MemberNumbers) (good : AreMemberNumbers numbers) (ms : List MemberFact) (m : MemberFact) (own : ℕ) (puts : List Put) (done : AreValues numbers ms own puts) where
   -- a member more, which has no number
-  pub declares_over : member_number numbers m.kind m.name m.descriptor ≡ None → Declares numbers old now (m ∷ ms) own above version
-  declares_over none = record { keeps = done.keeps; there = done.there; values = values }
+  pub values_over : member_number numbers m.kind m.name m.descriptor ≡ None → AreValues numbers (m ∷ ms) own puts
+  values_over none r k v e = done r k v e ∙ ap (λ o. declared_value own o v) (by (is_named r m) refl)
     where
-      values : (r : MemberReference) (k : ℕ) → asked_number numbers r ≡ Some k → value_at now version k ≡ declared_value own (find (is_named r) (m ∷ ms)) (value_at old above k)
-      values r k e = done.values r k e ∙ ap (λ o. declared_value own o (value_at old above k)) (by (is_named r m) refl)
-        where
-          by : (b : Bool) → is_named r m ≡ b → find (is_named r) ms ≡ cond b (Some m) (find (is_named r) ms)
-          by false f = refl
-          by true f =
-              let same = named_is r m f in
-              absurd (none_some (sym none ∙ (λ i. member_number numbers (sym same.0 i) (sym same.1 i) (sym same.2 i)) ∙ e))
+      by : (b : Bool) → is_named r m ≡ b → find (is_named r) ms ≡ cond b (Some m) (find (is_named r) ms)
+      by false f = refl
+      by true f =
+          let same = named_is r m f in
+          absurd (none_some (sym none ∙ (λ i. member_number numbers (sym same.0 i) (sym same.1 i) (sym same.2 i)) ∙ e))
 
   -- one that has a number
-  pub declares_more : (new : Versions) (k : ℕ) (value made : ℕ) → member_number numbers m.kind m.name m.descriptor ≡ Some k → value ≡ cond m.is_protected own 0 → Puts now new version k value made
-      → Declares numbers old new (m ∷ ms) own above made
-  declares_more new k value made is_k is_value puts = record { keeps = keep_on old now new done.keeps (put_keeps now new version k value made puts); there = puts.version; values = values }
+  pub values_more : (p : Put) (more : List Put) → member_number numbers m.kind m.name m.descriptor ≡ Some p.index → p.value ≡ cond m.is_protected own 0 → more ≡ puts ++ p ∷ [] → AreValues numbers (m ∷ ms) own more
+  values_more p more is_k is_value pushed r j v e = ap (λ xs. put_in xs j v) pushed ∙ put_last puts p j v ∙ by (is_named r m) refl
     where
-      values : (r : MemberReference) (j : ℕ) → asked_number numbers r ≡ Some j → value_at new made j ≡ declared_value own (find (is_named r) (m ∷ ms)) (value_at old above j)
-      values r j e = by (is_named r m) refl
+      by : (b : Bool) → is_named r m ≡ b → cond (p.index == j) p.value (put_in puts j v) ≡ declared_value own (cond b (Some m) (find (is_named r) ms)) v
+      by true f =
+          let same = named_is r m f in
+          let is_j : p.index ≡ j = some_same (sym is_k ∙ (λ i. member_number numbers (sym same.0 i) (sym same.1 i) (sym same.2 i)) ∙ e) in
+          ap (λ b. cond b p.value (put_in puts j v)) (eq-eqb p.index j is_j) ∙ is_value
+      by false f = ap (λ b. cond b p.value (put_in puts j v)) (ne_eqb p.index j apart) ∙ done r j v e
         where
-          by : (b : Bool) → is_named r m ≡ b → value_at new made j ≡ declared_value own (cond b (Some m) (find (is_named r) ms)) (value_at old above j)
-          by true f =
-              let same = named_is r m f in
-              let is_j : j ≡ k = some_same (sym e ∙ (λ i. member_number numbers (same.0 i) (same.1 i) (same.2 i)) ∙ is_k) in
-              ap (value_at new made) is_j ∙ puts.here ∙ is_value
-          by false f = puts.others j apart ∙ done.values r j e
-            where
-              apart : j ≡ k → ⊥
-              apart same =
-                  let all = good.one r.kind m.kind r.name m.name r.descriptor m.descriptor j e (is_k ∙ ap (λ n. Some n) (sym same)) in
-                  false≢true (sym f ∙ is_named_by r m all.0 all.1 all.2)
+          apart : p.index ≡ j → ⊥
+          apart same =
+              let all = good.one r.kind m.kind r.name m.name r.descriptor m.descriptor j e (is_k ∙ ap (λ n. Some n) same) in
+              false≢true (sym f ∙ is_named_by r m all.0 all.1 all.2)
 
--- before the first member
-pub declares_none : (numbers : MemberNumbers) (versions : Versions) (own above : ℕ) → AreVersions versions → IsVersion versions above → Declares numbers versions versions [] own above above
-declares_none numbers versions own above good there = record {
-  keeps = record { good = good; stays = λ v e. e; same = λ v e j. refl };
-  there = there;
-  values = λ r k e. refl;
+pub no_values : (numbers : MemberNumbers) (own : ℕ) (puts : List Put) → puts ≡ [] → AreValues numbers [] own puts
+no_values numbers own puts none r k v e = ap (λ xs. put_in xs k v) none
+
+-- so the version has the values of the members
+pub declares_all : (numbers : MemberNumbers) (old new : Versions) (ms : List MemberFact) (puts : List Put) (own above made : ℕ) → AreValues numbers ms own puts → PutsAll old new above puts made
+    → Declares numbers old new ms own above made
+declares_all numbers old new ms puts own above made values all = record {
+  keeps = record { good = all.good; stays = all.stays; same = all.kept };
+  there = all.version;
+  values = λ r k e. all.values k ∙ values r k (value_at old above k) e;
 }
 
 pub all_dropped : {X : Type 0} (xs : List X) (k : ℕ) → length xs ≤ k → drop k xs ≡ []
@@ -110,5 +109,6 @@ all_dropped [] (suc k) le = refl
 all_dropped (x ∷ xs) zero le = absurd (omega arith)
 all_dropped (x ∷ xs) (suc k) le = all_dropped xs k (omega arith)
 
-pub from_left : (ms : List MemberSummary) (left : ℕ) (m : MemberSummary) → left < length ms → m ≡ get_or ms left m → map member_of (drop left ms) ≡ member_of m ∷ map member_of (drop (left + 1) ms)
-from_left ms left m lt is = ap (map member_of) (drop_more ms left m lt ∙ ap (λ x. x ∷ drop (left + 1) ms) (sym is))
+pub from_left : (texts : List (Bor (List ℕ))) (ms : List MemberSummary) (left : ℕ) (m : MemberSummary) → left < length ms → m ≡ get_or ms left m
+    → map (member_of texts) (drop left ms) ≡ member_of texts m ∷ map (member_of texts) (drop (left + 1) ms)
+from_left texts ms left m lt is = ap (map (member_of texts)) (drop_more ms left m lt ∙ ap (λ x. x ∷ drop (left + 1) ms) (sym is))

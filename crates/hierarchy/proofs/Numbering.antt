@@ -125,7 +125,7 @@ module _ (texts more : TextNumbers) (members : KeyNumbers) (old : AreMemberNumbe
         by (inl f) = still_named q i f
         by (inr f) = (m.name, m.descriptor, name ∙ ap (λ (x : MemberKey). Some x.name) f, descriptor ∙ ap (λ (x : MemberKey). Some x.descriptor) f)
 
-    adds : AddsMember (record { texts = texts; members = members }) (record { texts = more; members = new }) m
+    adds : AddsMember (record { texts = texts; members = members }) (record { texts = more; members = new }) m.kind m.name m.descriptor
     adds = record {
       good = are_numbers more new good below keys named;
       kept = λ k a d i e.
@@ -149,12 +149,12 @@ module _ (texts more : TextNumbers) (members : KeyNumbers) (old : AreMemberNumbe
         )
 
   -- the member had a number
-  pub had_number : IsSome (number_at members key) → AddsMember (record { texts = texts; members = members }) (record { texts = more; members = members }) m
+  pub had_number : IsSome (number_at members key) → AddsMember (record { texts = texts; members = members }) (record { texts = more; members = members }) m.kind m.name m.descriptor
   had_number here = adds members (λ q i e. e) here (λ q i e. inl e) old.below old.keys
 
   -- the member gets the next number
   pub gets_number : (new : KeyNumbers) (n : ℕ) → n ≡ btree_map_len members → number_at members key ≡ None → ((q : MemberKey) → number_at new q ≡ cond (is_eq (key_cmp key q)) (Some n) (number_at members q))
-      → btree_map_len new ≡ btree_map_len members + 1 → AddsMember (record { texts = texts; members = members }) (record { texts = more; members = new }) m
+      → btree_map_len new ≡ btree_map_len members + 1 → AddsMember (record { texts = texts; members = members }) (record { texts = more; members = new }) m.kind m.name m.descriptor
   gets_number new n is none written longer = adds new
       (λ q i e. written q ∙ grows q i e (is_eq (key_cmp key q)) refl)
       (subst IsSome (sym (written key ∙ ap (λ b. cond b (Some n) (number_at members key)) (key_itself key))) refl)

@@ -6,7 +6,7 @@ use Rattle.std.proofs.lemmas.List.{get_or_append_left, get_or_push, get_or_read,
 use Rattle.std.proofs.lemmas.Result.{IfOk-weaker}
 use Rattle.hierarchy.specs.declared.versions.Node.{Node}
 use Rattle.hierarchy.specs.declared.versions.Versions.{Versions}
-use Rattle.hierarchy.specs.private.Versions.{node_at, node_below, value_in, value_at, IsVersion, AreVersions, Puts}
+use Rattle.hierarchy.specs.private.Versions.{node_at, node_below, value_in, value_at, IsVersion, AreVersions, IsAdded, Puts}
 
 -- ---- the way to an index
 
@@ -80,15 +80,6 @@ module _ (vs : Versions) (is : vs.nodes.items ≡ record { value = 0; odd = 0; e
           omega arith
 
 -- ---- a node more
-
--- a version is added, and the others stay
-pub record IsAdded (old new : Versions) (node : Node) (made : ℕ) : Type 0 where
-  pub version : IsVersion new made
-  pub own : value_at new made 0 ≡ node.value
-  pub further : (i : ℕ) → 0 < i → value_at new made i ≡ value_at old (node_below node i) ((i - 1) / 2)
-  pub kept : (v : ℕ) → IsVersion old v → (j : ℕ) → value_at new v j ≡ value_at old v j
-  pub stays : (v : ℕ) → IsVersion old v → IsVersion new v
-  pub good : AreVersions new
 
 module _ (old new : Versions) (node : Node) (made : ℕ) (good : AreVersions old) (odd : IsVersion old node.odd) (even : IsVersion old node.even)
     (is_made : made ≡ length old.nodes.items) (is : new.nodes.items ≡ old.nodes.items ++ node ∷ []) where
@@ -219,7 +210,7 @@ put_nothing vs from index value good there e = record { version = there; here = 
 
 -- the node of the version was read
 module _ (old : Versions) (from : ℕ) (node : Node) (good : AreVersions old) (there : IsVersion old from) (read : node ≡ get_or old.nodes.items from node) where
-  is_read : node ≡ node_at old.nodes.items from
+  pub is_read : node ≡ node_at old.nodes.items from
   is_read = get_or_read old.nodes.items from node there read (record { value = 0; odd = 0; even = 0 })
 
   -- the walk goes one node down

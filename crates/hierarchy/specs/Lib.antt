@@ -1,6 +1,7 @@
 pub mod World
 pub mod Class
 pub mod Summary
+pub mod Texts
 pub mod ClassSummary
 pub mod Answer
 pub mod Rules

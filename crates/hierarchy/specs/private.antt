@@ -4,5 +4,8 @@ pub mod Ancestry
 pub mod Flags
 pub mod Inheritance
 pub mod MemberNumbers
+pub mod SameSummaries
 pub mod Skips
+pub mod Summarising
+pub mod TextNumbers
 pub mod Versions

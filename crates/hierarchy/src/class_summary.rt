@@ -1,23 +1,18 @@
 //! The summary of a class file.
-ghost use Rattle.std.specs.Prelude.{◌≡◌, ◌++◌, map, option_map, IfOk, OnOk};
+ghost use Rattle.std.specs.Prelude.{◌≡◌, ◌++◌, List, map, option_map, IfOk, OnOk};
 ghost use Rattle.classfile.specs.Views.{class_view, member_view};
-ghost use Rattle.hierarchy.specs.ClassSummary.{text_of, class_name_of, superclass_name, member_summary, member_summaries, summary_of};
-ghost use Rattle.hierarchy.specs.Summary.{member_of, fact_of};
+ghost use Rattle.hierarchy.specs.Class.{MemberFact};
+ghost use Rattle.hierarchy.specs.ClassSummary.{class_name_of, superclass_name, member_summary, member_summaries, summary_of};
+ghost use Rattle.hierarchy.specs.Summary.{fact_of};
+ghost use Rattle.hierarchy.specs.Texts.{AreTexts, kept_texts};
+ghost use Rattle.hierarchy.specs.private.Summarising.{AreSummarised, Summarises};
 
-use crate::summary::{Kind, MemberSummary, Summary};
+use crate::summary::{Kind, MemberPlaces, MemberSummary, Summary};
+use crate::texts::Texts;
 use classfile::flags::{FINAL, INTERFACE, PROTECTED, STATIC, has};
 use classfile::{Formed, Member};
 use pool::Pool;
 use std::alloc::{AllocError, Global};
-
-fn text_of<'a>(pool: &Pool<'a>, index: u16) -> &'a [u8]
-    ensures { result.now ≡ text_of pool.now index }
-{
-    match pool.text(index) {
-        Ok(text) => text.bytes(),
-        Err(_) => &[],
-    }
-}
 
 fn class_name_of<'a>(pool: &Pool<'a>, index: u16) -> &'a [u8]
     ensures { result.now ≡ class_name_of pool.now index }
@@ -38,29 +33,45 @@ fn superclass_name<'a>(pool: &Pool<'a>, index: u16) -> Option<&'a [u8]>
     }
 }
 
-fn member_summary<'a>(pool: &Pool<'a>, kind: Kind, member: &Member<'_>) -> MemberSummary<'a>
-    ensures { member_of result ≡ member_summary pool.now kind (member_view member.now) }
+fn member_summary<'a>(
+    pool: &Pool<'a>,
+    texts: &mut Texts<'a>,
+    kind: Kind,
+    member: &Member<'_>,
+) -> Result<MemberSummary, AllocError>
+    requires { AreTexts pool.now texts.old }
+    ensures { IfOk result (Summarises pool.now texts.old texts.new
+        (member_summary pool.now kind (member_view member.now))) }
 {
-    MemberSummary {
-        name: text_of(pool, member.name),
-        descriptor: text_of(pool, member.descriptor),
-        kind,
+    let name = texts.place(pool, member.name)?;
+    let descriptor = texts.place(pool, member.descriptor)?;
+    Ok(MemberSummary {
+        places: MemberPlaces {
+            kind,
+            name,
+            descriptor,
+        },
         is_static: has(member.access_flags, STATIC),
         is_protected: has(member.access_flags, PROTECTED),
-    }
+    })
 }
 
 fn summarise<'a>(
     pool: &Pool<'a>,
+    texts: &mut Texts<'a>,
     kind: Kind,
     members: &[Member<'_>],
-    out: &mut Vec<MemberSummary<'a>>,
+    out: &mut Vec<MemberSummary>,
 ) -> Result<(), AllocError>
-    ensures { OnOk result (map member_of out.new.items ≡ map member_of out.old.items
-        ++ member_summaries pool.now kind (map member_view members.now)) }
+    requires { AreTexts pool.now texts.old }
+    ensures good { OnOk result (AreTexts pool.now texts.new) }
+    ensures summaries { OnOk result ((facts : List MemberFact)
+        → AreSummarised (kept_texts texts.old) out.old.items facts
+        → AreSummarised (kept_texts texts.new) out.new.items
+        (facts ++ member_summaries pool.now kind (map member_view members.now))) }
 {
     for member in members {
-        out.push(member_summary(pool, kind, member))?;
+        out.push(member_summary(pool, texts, kind, member)?)?;
     }
     Ok(())
 }
@@ -81,14 +92,17 @@ pub fn summary_of<'a>(alloc: Global, formed: &Formed<'_, 'a>) -> Result<Summary<
 {
     let class = formed.class();
     let pool = &class.constant_pool;
-    let mut members = Vec::new(alloc);
-    summarise(pool, Kind::Field, &class.fields, &mut members)?;
-    summarise(pool, Kind::Method, &class.methods, &mut members)?;
+    let count = class.fields.len() + class.methods.len();
+    let mut texts = Texts::with_room(alloc, count.saturating_mul(2))?;
+    let mut members = Vec::with_capacity(alloc, count)?;
+    summarise(pool, &mut texts, Kind::Field, &class.fields, &mut members)?;
+    summarise(pool, &mut texts, Kind::Method, &class.methods, &mut members)?;
     Ok(Summary {
         name: name_of(formed),
         superclass: superclass_name(pool, class.super_class),
         interface: has(class.access_flags, INTERFACE),
         is_final: has(class.access_flags, FINAL),
+        texts: texts.list,
         members,
     })
 }

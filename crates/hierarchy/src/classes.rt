@@ -4,12 +4,12 @@ ghost use Rattle.std.specs.Option.{option_copied};
 ghost use Rattle.hierarchy.specs.Class.{ClassFact, class_of, interface_of};
 ghost use Rattle.hierarchy.specs.Nearest.{is_guarded};
 ghost use Rattle.hierarchy.specs.Places.{place_in};
-ghost use Rattle.hierarchy.specs.Summary.{fact_of, reference_of};
+ghost use Rattle.hierarchy.specs.Summary.{fact_of, references_of};
 ghost use Rattle.hierarchy.specs.Rules.{IsHierarchy};
 ghost use Rattle.hierarchy.specs.Answer.{SubclassAnswer, outcome_of, yes_if};
 
 use crate::answer::Answer;
-use crate::member_references::MemberRef;
+use crate::member_references::References;
 use crate::summary::Summary;
 use std::alloc::{AllocError, Global};
 
@@ -54,9 +54,8 @@ pub trait Classes {
         &self,
         alloc: Global,
         class: &[u8],
-        references: &[MemberRef<'_>],
+        references: &References<'_>,
     ) -> Result<Option<Vec<bool>>, AllocError>
         ensures { IfOk result (λ found. IfSome found
-            (λ answers. answers.items ≡ map
-            (λ r. is_guarded (content self.now) class.now (reference_of r)) references.now)) };
+            (λ answers. answers.items ≡ map (is_guarded (content self.now) class.now) (references_of references.now))) };
 }

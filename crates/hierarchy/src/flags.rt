@@ -1,34 +1,36 @@
 //! The declarations of the classes above a class, each with whether it guards its member.
-ghost use Rattle.std.specs.Prelude.{◌≡◌, map, IfOk, OnOk};
-ghost use Rattle.hierarchy.specs.private.Above.{classes_above, names_above, names_of};
-ghost use Rattle.hierarchy.specs.private.Flags.{AreNumbers, AreFlags, KeepsClass, first_flag, spot_of};
+ghost use Rattle.std.specs.Borrow.{Bor};
+ghost use Rattle.std.specs.Prelude.{◌≡◌, ℕ, List, map, IfOk, OnOk};
+ghost use Rattle.hierarchy.specs.private.Above.{classes_above, names_above, names_of, Numbers, number_of};
+ghost use Rattle.hierarchy.specs.private.Flags.{AreNumbers, AreFlags, KeepsClass, first_flag, spot_with};
 ghost use Rattle.hierarchy.specs.Rules.{IsHierarchy};
-ghost use Rattle.hierarchy.specs.Summary.{fact_of, member_of};
+ghost use Rattle.hierarchy.specs.Summary.{fact_of, text_among};
+ghost use Rattle.hierarchy.specs.private.TextNumbers.{AreFound};
 
 use crate::classes::Classes;
 use crate::package::package_of;
 use crate::spot::Spot;
-use crate::summary::{MemberSummary, Summary};
+use crate::summary::{MemberPlaces, Summary};
+use crate::text_numbers::Lookups;
 use std::alloc::{AllocError, Global};
 use std::collections::BTreeMap;
 
 /// The spot of a member that a class at a place declares, if its texts have numbers.
 fn spot_of(
-    numbers: &BTreeMap<&[u8], usize>,
-    member: &MemberSummary<'_>,
+    lookups: &mut Lookups<'_, '_, '_, '_>,
+    member: MemberPlaces,
     place: usize,
 ) -> Option<Spot>
-    ensures { result ≡ spot_of numbers.now place (member_of member.now) }
+    requires { (numbers : Numbers) × (texts : List (Bor (List ℕ))) × AreFound numbers texts lookups.old }
+    ensures { (numbers : Numbers) (texts : List (Bor (List ℕ))) → AreFound numbers texts lookups.old
+        → AreFound numbers texts lookups.new × (result ≡ spot_with (number_of numbers (text_among texts member.name))
+        (number_of numbers (text_among texts member.descriptor)) member.kind place) }
 {
-    let Some(name) = numbers.get(member.name) else {
-        return None;
-    };
-    let Some(descriptor) = numbers.get(member.descriptor) else {
-        return None;
-    };
+    let name = lookups.get(member.name);
+    let descriptor = lookups.get(member.descriptor);
     Some(Spot {
-        name: *name,
-        descriptor: *descriptor,
+        name: name?,
+        descriptor: descriptor?,
         kind: member.kind,
         place,
     })
@@ -38,19 +40,20 @@ fn spot_of(
 /// stays.
 fn keep_class(
     flags: &mut BTreeMap<Spot, bool>,
-    numbers: &BTreeMap<&[u8], usize>,
+    lookups: &mut Lookups<'_, '_, '_, '_>,
     class: &Summary<'_>,
     place: usize,
     elsewhere: bool,
 ) -> Result<(), AllocError>
-    requires { AreNumbers numbers.now }
-    ensures { OnOk result (KeepsClass numbers.now (fact_of class.now) place elsewhere flags.old flags.new) }
+    requires { (numbers : Numbers) × AreFound numbers class.now.texts.items lookups.old }
+    ensures { (numbers : Numbers) → AreNumbers numbers → AreFound numbers class.now.texts.items lookups.old
+        → OnOk result (KeepsClass numbers (fact_of class.now) place elsewhere flags.old flags.new) }
 {
     let mut left = class.members.len();
     while left > 0 {
         left -= 1;
         let member = &class.members[left];
-        if let Some(spot) = spot_of(numbers, member, place) {
+        if let Some(spot) = spot_of(lookups, member.places, place) {
             flags.insert(spot, member.is_protected && elsewhere)?;
         }
     }
@@ -81,7 +84,8 @@ pub fn flags_of<C: Classes>(
             unreachable!();
         };
         let elsewhere = package_of(name) != package;
-        keep_class(&mut flags, numbers, other, place, elsewhere)?;
+        let mut lookups = Lookups::new(alloc, numbers, &other.texts)?;
+        keep_class(&mut flags, &mut lookups, other, place, elsewhere)?;
     }
     Ok(flags)
 }

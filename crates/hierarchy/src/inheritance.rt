@@ -1,26 +1,29 @@
 //! The inheritance of classes, found for many at once.
-ghost use Rattle.std.specs.Prelude.{◌≡◌, ◌<◌, ◌↔◌, ◌+◌, List, [], length, map, slice_get, Some, IfOk, OnOk, IsTrue};
+ghost use Rattle.std.specs.Prelude.{◌≡◌, ◌<◌, ◌≤◌, ◌↔◌, ◌+◌, ℕ, List, [], length, map, slice_get, Some, IfOk, IfSome, OnOk, IsTrue};
+ghost use Rattle.std.specs.Borrow.{Bor};
 ghost use Rattle.hierarchy.specs.private.Above.{class_above};
 ghost use Rattle.hierarchy.specs.private.Ancestry.{IsAncestry, facts_at, place_among};
 ghost use Rattle.hierarchy.specs.Class.{ClassFact, IsSubclass};
-ghost use Rattle.hierarchy.specs.private.Inheritance.{Declares, HaveNumbers, has_length, InheritSoFar, InheritsAny, IsInheritance, IsProtectedAt, KeepMembers, NumberAll};
-ghost use Rattle.hierarchy.specs.private.MemberNumbers.{AreMemberNumbers};
+ghost use Rattle.hierarchy.specs.private.Inheritance.{AreValues, HaveNumbers, LooksAt, has_length, InheritSoFar, InheritsAny, IsInheritance, IsProtectedAt, KeepMembers, NumberAll};
+ghost use Rattle.hierarchy.specs.private.MemberNumbers.{AreLookups, AreMemberNumbers};
 ghost use Rattle.hierarchy.specs.Nearest.{is_guarded};
 ghost use Rattle.hierarchy.specs.declared.inheritance.Inherited.{Inherited as InheritedFact};
 ghost use Rattle.hierarchy.specs.declared.member_numbers.MemberNumbers.{MemberNumbers};
 ghost use Rattle.hierarchy.specs.Rules.{IsHierarchy};
-ghost use Rattle.hierarchy.specs.Summary.{fact_of, member_of, reference_of};
-ghost use Rattle.hierarchy.specs.private.Versions.{AreVersions, IsVersion};
+ghost use Rattle.hierarchy.specs.Summary.{asked, fact_of, references_of};
+ghost use Rattle.hierarchy.specs.private.TextNumbers.{OfEach};
+ghost use Rattle.hierarchy.specs.private.Versions.{Most};
 
 use crate::ancestry::{Ancestry, ancestry_of};
 use crate::classes::Classes;
-use crate::member_numbers::MemberNumbers;
-use crate::member_references::MemberRef;
+use crate::member_numbers::{MemberLookups, MemberNumbers};
+use crate::member_references::References;
 use crate::package::package_of;
-use crate::starts::number_of;
-use crate::summary::Summary;
+use crate::summary::{MemberPlaces, Summary};
 use crate::superclasses::class_above;
-use crate::versions::Versions;
+use crate::text_numbers::{Numbering, number_of};
+use crate::texts::{place_among, text_among};
+use crate::versions::{Put, Versions};
 use std::alloc::{AllocError, Global};
 use std::collections::BTreeMap;
 
@@ -63,17 +66,19 @@ pub struct InheritanceTable<'k> {
 
 /// Gives numbers to the protected members of a class.
 fn number_members<'k>(
+    alloc: Global,
     numbers: &mut MemberNumbers<'k>,
     class: &Summary<'k>,
 ) -> Result<(), AllocError>
     requires { AreMemberNumbers numbers.old }
     ensures good { OnOk result (AreMemberNumbers numbers.new) }
-    ensures numbered { OnOk result (HaveNumbers numbers.new (map member_of class.now.members.items)) }
+    ensures numbered { OnOk result (HaveNumbers numbers.new (fact_of class.now).members) }
     ensures kept { OnOk result (KeepMembers numbers.old numbers.new) }
 {
+    let mut numbering = Numbering::new(alloc, &class.texts)?;
     for member in &class.members {
         if member.is_protected {
-            numbers.add(member)?;
+            numbers.add(&mut numbering, member.places)?;
         }
     }
     Ok(())
@@ -86,37 +91,45 @@ fn numbers_of<'k>(alloc: Global, ancestry: &Ancestry<'k>) -> Result<MemberNumber
 {
     let mut numbers = MemberNumbers::new(alloc);
     for place in 0..ancestry.classes.len() {
-        number_members(&mut numbers, ancestry.classes[place])?;
+        number_members(alloc, &mut numbers, ancestry.classes[place])?;
     }
     Ok(numbers)
 }
 
-/// The version of the members of a class, over that of its superclass. From the last member to the first, so that the
-/// first of several counts.
-fn declare(
-    versions: &mut Versions,
-    numbers: &MemberNumbers<'_>,
+fn greater(one: usize, other: usize) -> usize
+    ensures first { one ≤ result }
+    ensures second { other ≤ result }
+{
+    if one < other { other } else { one }
+}
+
+/// The values of the members of a class that have numbers, with the greatest of these. From the last member to the first,
+/// so that the first of several counts.
+fn values_of(
+    alloc: Global,
+    lookups: &mut MemberLookups<'_, '_, '_, '_>,
     class: &Summary<'_>,
     own: usize,
-    above: usize,
-) -> Result<usize, AllocError>
-    requires numbers { AreMemberNumbers numbers.now }
-    requires good { AreVersions versions.old }
-    requires there { IsVersion versions.old above }
-    ensures { IfOk result (Declares numbers.now versions.old versions.new
-        (map member_of class.now.members.items) own above) }
+) -> Result<(Vec<Put>, usize), AllocError>
+    requires lookups { (numbers : MemberNumbers) × AreLookups numbers class.now.texts.items lookups.old }
+    ensures values { (numbers : MemberNumbers) → AreMemberNumbers numbers
+        → AreLookups numbers class.now.texts.items lookups.old
+        → IfOk result (λ x. AreValues numbers (fact_of class.now).members own x.0.items) }
+    ensures most { IfOk result (λ x. Most x.1 x.0.items) }
 {
-    let mut version = above;
+    let mut puts = Vec::new(alloc);
+    let mut most = 0;
     let mut left = class.members.len();
     while left > 0 {
         left -= 1;
         let member = &class.members[left];
-        if let Some(number) = numbers.get(member.kind, member.name, member.descriptor) {
+        if let Some(index) = lookups.get(member.places) {
             let value = if member.is_protected { own } else { 0 };
-            version = versions.put(version, number, value)?;
+            puts.push(Put { index, value })?;
+            most = greater(most, index);
         }
     }
-    Ok(version)
+    Ok((puts, most))
 }
 
 impl<'k> InheritanceTable<'k> {
@@ -186,7 +199,10 @@ impl<'k> InheritanceTable<'k> {
         let class = ancestry.classes[place];
         let above = self.above(classes, ancestry, class);
         let ancestors = self.versions.put(above.ancestors, place, 1)?;
-        let members = declare(&mut self.versions, numbers, class, place + 1, above.members)?;
+        let alloc = *self.of.allocator();
+        let mut lookups = MemberLookups::new(alloc, numbers, &class.texts)?;
+        let (puts, most) = values_of(alloc, &mut lookups, class, place + 1)?;
+        let members = self.versions.put_all(above.members, &puts, most)?;
         let package_number = number_of(&mut self.packages, package_of(class.name))?;
         let mut lengths = above.lengths;
         lengths[class.name.len() % LENGTHS] = true;
@@ -264,17 +280,24 @@ impl<'k> Inheritance<'k> {
     }
 
     /// The place of the class with the nearest declaration from the class at a place upward, where that is protected.
-    fn protected_in(&self, class: usize, reference: &MemberRef<'_>) -> Option<usize>
+    fn protected_in(
+        &self,
+        class: usize,
+        lookups: &mut MemberLookups<'_, '_, '_, '_>,
+        member: MemberPlaces,
+    ) -> Option<usize>
         requires good { (classes : List ClassFact) × IsInheritance classes self.now }
         requires there { class < length self.now.table.of.items }
-        ensures { (classes : List ClassFact) (c : ClassFact) → IsInheritance classes self.now
+        requires lookups { (texts : List (Bor (List ℕ))) × AreLookups self.now.numbers texts lookups.old }
+        ensures lookups { (texts : List (Bor (List ℕ))) → AreLookups self.now.numbers texts lookups.old
+            → AreLookups self.now.numbers texts lookups.new }
+        ensures place { (classes : List ClassFact) (c : ClassFact) (texts : List (Bor (List ℕ))) (name : List ℕ)
+            → IsInheritance classes self.now
             → slice_get (facts_at self.now.ancestry.classes.items) class ≡ Some c
-            → IsProtectedAt classes (facts_at self.now.ancestry.classes.items)
-            (reference_of reference.now) c.name result }
+            → AreLookups self.now.numbers texts lookups.old
+            → IsProtectedAt classes (facts_at self.now.ancestry.classes.items) (asked texts name member) c.name result }
     {
-        let number = self
-            .numbers
-            .get(reference.kind, reference.name, reference.descriptor)?;
+        let number = lookups.get(member)?;
         let place = self
             .table
             .versions
@@ -292,23 +315,73 @@ impl<'k> Inheritance<'k> {
         self.table.of[class].lengths[name.len() % LENGTHS]
     }
 
-    /// Whether the class at a place may use the member that a reference asks for on objects of its own alone.
-    fn is_guarded<C: Classes>(&self, classes: &C, class: usize, reference: &MemberRef<'_>) -> bool
+    /// Where the class at a place looks for the members of the class of this name: at the place of that class, if it
+    /// stands above.
+    fn start<C: Classes>(&self, classes: &C, class: usize, name: &[u8]) -> Option<usize>
         requires good { IsInheritance (C.content classes.now) self.now }
         requires there { class < length self.now.table.of.items }
         ensures { (c : ClassFact) → slice_get (facts_at self.now.ancestry.classes.items) class ≡ Some c
-            → result ≡ is_guarded (C.content classes.now) c.name (reference_of reference.now) }
+            → LooksAt (C.content classes.now) self.now class c name.now result }
     {
-        if !self.may_be_above(class, reference.class) {
-            return false;
+        if !self.may_be_above(class, name) {
+            return None;
         }
-        let Some(start) = self.place(classes, reference.class) else {
+        let start = self.place(classes, name)?;
+        if start == class || !self.is_below(class, start) {
+            return None;
+        }
+        Some(start)
+    }
+
+    /// Where the class at a place looks for the members of the classes of these names, and behind them for those of the
+    /// class without a name.
+    fn starts<C: Classes>(
+        &self,
+        alloc: Global,
+        classes: &C,
+        class: usize,
+        names: &[&[u8]],
+    ) -> Result<Vec<Option<usize>>, AllocError>
+        requires good { IsInheritance (C.content classes.now) self.now }
+        requires there { class < length self.now.table.of.items }
+        ensures long { IfOk result (λ starts. length starts.items ≡ length names.now + 1) }
+        ensures each { IfOk result (λ starts. (c : ClassFact)
+            → slice_get (facts_at self.now.ancestry.classes.items) class ≡ Some c
+            → OfEach (LooksAt (C.content classes.now) self.now class c) names.now starts.items) }
+    {
+        let mut starts = Vec::with_capacity(alloc, names.len() + 1)?;
+        for place in 0..names.len() + 1 {
+            let name = text_among(names, place);
+            starts.push(self.start(classes, class, name))?;
+        }
+        Ok(starts)
+    }
+
+    /// Whether the class at a place may use a member on objects of its own alone, where it looks for it from a place
+    /// upward.
+    fn is_guarded(
+        &self,
+        class: usize,
+        start: Option<usize>,
+        lookups: &mut MemberLookups<'_, '_, '_, '_>,
+        member: MemberPlaces,
+    ) -> bool
+        requires good { (classes : List ClassFact) × IsInheritance classes self.now }
+        requires there { class < length self.now.table.of.items }
+        requires start { IfSome start (λ s. s < length self.now.table.of.items) }
+        requires lookups { (texts : List (Bor (List ℕ))) × AreLookups self.now.numbers texts lookups.old }
+        ensures lookups { (texts : List (Bor (List ℕ))) → AreLookups self.now.numbers texts lookups.old
+            → AreLookups self.now.numbers texts lookups.new }
+        ensures guarded { (classes : List ClassFact) (c : ClassFact) (texts : List (Bor (List ℕ))) (name : List ℕ)
+            → IsInheritance classes self.now
+            → slice_get (facts_at self.now.ancestry.classes.items) class ≡ Some c
+            → AreLookups self.now.numbers texts lookups.old → LooksAt classes self.now class c name start
+            → result ≡ is_guarded classes c.name (asked texts name member) }
+    {
+        let Some(start) = start else {
             return false;
         };
-        if start == class || !self.is_below(class, start) {
-            return false;
-        }
-        match self.protected_in(start, reference) {
+        match self.protected_in(start, lookups, member) {
             None => false,
             Some(place) => self.table.of[place].package_number
                 != self.table.of[class].package_number,
@@ -321,17 +394,20 @@ impl<'k> Inheritance<'k> {
         alloc: Global,
         classes: &C,
         class: usize,
-        references: &[MemberRef<'_>],
+        references: &References<'_>,
     ) -> Result<Vec<bool>, AllocError>
         requires good { IsInheritance (C.content classes.now) self.now }
         requires there { class < length self.now.table.of.items }
         ensures { IfOk result (λ answers. (c : ClassFact)
             → slice_get (facts_at self.now.ancestry.classes.items) class ≡ Some c
-            → answers.items ≡ map (λ r. is_guarded (C.content classes.now) c.name (reference_of r)) references.now) }
+            → answers.items ≡ map (is_guarded (C.content classes.now) c.name) (references_of references.now)) }
     {
-        let mut answers = Vec::with_capacity(alloc, references.len())?;
-        for reference in references {
-            answers.push(self.is_guarded(classes, class, reference))?;
+        let starts = self.starts(alloc, classes, class, &references.classes)?;
+        let mut lookups = MemberLookups::new(alloc, &self.numbers, &references.texts)?;
+        let mut answers = Vec::with_capacity(alloc, references.members.len())?;
+        for reference in &references.members {
+            let start = starts[place_among(&references.classes, reference.class)];
+            answers.push(self.is_guarded(class, start, &mut lookups, reference.places))?;
         }
         Ok(answers)
     }

@@ -3,6 +3,7 @@
 //! a list of summaries answer as [`Classes`]; [`Chains::new`] makes one that answers the same by a walk.
 //!
 //! - `summary`: the summary of a class.
+//! - `texts`: texts of a constant pool, each kept once.
 //! - `class_summary`: the summary of a class file.
 //! - `answer`: yes, no, or a class that would be needed and is absent.
 //! - `classes`: the questions, whatever keeps the classes.
@@ -14,12 +15,14 @@
 //! - `cycles`: the first class that stands on the chain of its own superclasses.
 //! - `checked_classes`: a list of classes that keeps the rules.
 //! - `chains`: classes by a walk along their superclasses.
+//! - `same_summaries`: whether two summaries are the same.
 //! - `skips`: skips up the chain of superclasses, by doubled steps.
 //! - `row_table`: rows of ancestors, one after the other.
 //! - `rows`: classes by rows of ancestors.
 //! - `member_references`: references to members that are protected and of another package.
 //! - `superclasses`: the classes above a class.
 //! - `spot`: members by numbers of their texts, at a class above.
+//! - `text_numbers`: numbers of texts, of which each is looked up once.
 //! - `starts`: where references begin to look for declarations.
 //! - `flags`: declarations of the classes above, and the first from a class upward.
 //! - `ancestry`: classes with all that stand above them, each after its superclass.
@@ -54,11 +57,14 @@ mod prepared_classes;
 mod row_table;
 mod rows;
 mod rules;
+mod same_summaries;
 mod skips;
 mod spot;
 mod starts;
 mod summary;
 mod superclasses;
+mod text_numbers;
+mod texts;
 mod versions;
 
 pub use answer::Answer;
@@ -67,7 +73,9 @@ pub use class_summary::{name_of, summary_of};
 pub use classes::Classes;
 pub use cycles::twice_as_far;
 pub use fault::HierarchyFault;
-pub use member_references::{MemberRef, guarded};
+pub use member_references::{MemberRef, References, guarded};
 pub use prepared_classes::Prepared;
 pub use rows::Rows;
-pub use summary::{Kind, MemberSummary, Summary};
+pub use same_summaries::same_summary;
+pub use summary::{Kind, MemberPlaces, MemberSummary, Summary};
+pub use texts::Texts;

@@ -1,12 +1,15 @@
 //! Numbers of members, by kind, name and descriptor.
-ghost use Rattle.std.specs.Prelude.{◌≡◌, ℕ, List, None, OnOk};
+ghost use Rattle.std.specs.Borrow.{Bor};
+ghost use Rattle.std.specs.Prelude.{◌≡◌, ℕ, List, None, IfOk, OnOk};
+ghost use Rattle.hierarchy.specs.declared.member_numbers.MemberNumbers.{MemberNumbers};
 ghost use Rattle.hierarchy.specs.declared.summary.Kind.{Kind};
-ghost use Rattle.hierarchy.specs.private.MemberNumbers.{AddsMember, AreMemberNumbers, key_of, member_number};
-ghost use Rattle.hierarchy.specs.Summary.{member_of};
+ghost use Rattle.hierarchy.specs.private.MemberNumbers.{AddsMember, AreLookups, AreMemberNumbers, member_number};
+ghost use Rattle.hierarchy.specs.Summary.{text_among};
+ghost use Rattle.hierarchy.specs.private.TextNumbers.{AreGiven};
 
 use crate::member_key::MemberKey;
-use crate::starts::number_of;
-use crate::summary::{Kind, MemberSummary};
+use crate::summary::MemberPlaces;
+use crate::text_numbers::{Lookups, Numbering};
 use std::alloc::{AllocError, Global};
 use std::collections::BTreeMap;
 
@@ -17,26 +20,42 @@ pub struct MemberNumbers<'a> {
     members: BTreeMap<MemberKey, usize>,
 }
 
-// The key of a member, if both of its texts have numbers.
-fn key_of(
-    texts: &BTreeMap<&[u8], usize>,
-    kind: Kind,
-    name: &[u8],
-    descriptor: &[u8],
-) -> Option<MemberKey>
-    ensures { result ≡ key_of texts.now kind name.now descriptor.now }
-{
-    let Some(name) = texts.get(name) else {
-        return None;
-    };
-    let Some(descriptor) = texts.get(descriptor) else {
-        return None;
-    };
-    Some(MemberKey {
-        name: *name,
-        descriptor: *descriptor,
-        kind,
-    })
+/// Members whose numbers are asked for. Of a list of texts each is looked up once.
+#[derive(Drop)]
+pub struct MemberLookups<'n, 'k, 't, 'a> {
+    numbers: &'n MemberNumbers<'k>,
+    texts: Lookups<'n, 'k, 't, 'a>,
+}
+
+impl<'n, 'k, 't, 'a> MemberLookups<'n, 'k, 't, 'a> {
+    /// No member was asked for.
+    pub fn new(
+        alloc: Global,
+        numbers: &'n MemberNumbers<'k>,
+        texts: &'t [&'a [u8]],
+    ) -> Result<MemberLookups<'n, 'k, 't, 'a>, AllocError>
+        ensures { IfOk result (AreLookups numbers.now texts.now) }
+    {
+        let texts = Lookups::new(alloc, &numbers.texts, texts)?;
+        Ok(MemberLookups { numbers, texts })
+    }
+
+    /// The number of a member, by the places of its texts, if it has one.
+    pub fn get(&mut self, member: MemberPlaces) -> Option<usize>
+        requires { (numbers : MemberNumbers) × (texts : List (Bor (List ℕ))) × AreLookups numbers texts self.old }
+        ensures { (numbers : MemberNumbers) (texts : List (Bor (List ℕ))) → AreLookups numbers texts self.old
+            → AreLookups numbers texts self.new × (result ≡ member_number numbers member.kind
+            (text_among texts member.name) (text_among texts member.descriptor)) }
+    {
+        let name = self.texts.get(member.name);
+        let descriptor = self.texts.get(member.descriptor);
+        let key = MemberKey {
+            name: name?,
+            descriptor: descriptor?,
+            kind: member.kind,
+        };
+        self.numbers.members.get(&key).copied()
+    }
 }
 
 impl<'a> MemberNumbers<'a> {
@@ -51,23 +70,22 @@ impl<'a> MemberNumbers<'a> {
         }
     }
 
-    /// The number of a member, if it has one.
-    pub fn get(&self, kind: Kind, name: &[u8], descriptor: &[u8]) -> Option<usize>
-        ensures { result ≡ member_number self.now kind name.now descriptor.now }
+    /// Gives a member, by the places of its texts, the next number, where it has none.
+    pub fn add(
+        &mut self,
+        numbering: &mut Numbering<'_, 'a>,
+        member: MemberPlaces,
+    ) -> Result<(), AllocError>
+        requires good { AreMemberNumbers self.old }
+        requires given { AreGiven self.old.texts numbering.old }
+        ensures added { OnOk result (AddsMember self.old self.new member.kind
+            (text_among numbering.old.texts.now member.name)
+            (text_among numbering.old.texts.now member.descriptor)) }
+        ensures given { OnOk result (AreGiven self.new.texts numbering.new) }
+        ensures same { OnOk result (numbering.new.texts.now ≡ numbering.old.texts.now) }
     {
-        let Some(key) = key_of(&self.texts, kind, name, descriptor) else {
-            return None;
-        };
-        self.members.get(&key).copied()
-    }
-
-    /// Gives a member the next number, where it has none.
-    pub fn add(&mut self, member: &MemberSummary<'a>) -> Result<(), AllocError>
-        requires { AreMemberNumbers self.old }
-        ensures { OnOk result (AddsMember self.old self.new (member_of member.now)) }
-    {
-        let name = number_of(&mut self.texts, member.name)?;
-        let descriptor = number_of(&mut self.texts, member.descriptor)?;
+        let name = numbering.number(&mut self.texts, member.name)?;
+        let descriptor = numbering.number(&mut self.texts, member.descriptor)?;
         let key = MemberKey {
             name,
             descriptor,

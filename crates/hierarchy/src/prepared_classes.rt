@@ -2,7 +2,7 @@
 use crate::answer::Answer;
 use crate::classes::Classes;
 use crate::inheritance::Inheritance;
-use crate::member_references::MemberRef;
+use crate::member_references::References;
 use crate::summary::Summary;
 use std::alloc::{AllocError, Global};
 use std::marker::Model;
@@ -80,7 +80,7 @@ impl<'k, C: Classes> Classes for Prepared<'k, C> {
         &self,
         alloc: Global,
         class: &[u8],
-        references: &[MemberRef<'_>],
+        references: &References<'_>,
     ) -> Result<Option<Vec<bool>>, AllocError> {
         let classes = self.classes;
         match self.inheritance.place(classes, class) {

@@ -14,7 +14,7 @@ use crate::checked_classes::checked_index;
 use crate::classes::Classes;
 use crate::fault::HierarchyFault;
 use crate::index::Index;
-use crate::member_references::MemberRef;
+use crate::member_references::References;
 use crate::places::short;
 use crate::row_table::{RowTable, has_entry, rows_of};
 use crate::skips::skips_up;
@@ -204,7 +204,7 @@ impl<'s, 'a, S: BuildHasher> Classes for Rows<'s, 'a, S> {
         &self,
         _alloc: Global,
         _class: &[u8],
-        _references: &[MemberRef<'_>],
+        _references: &References<'_>,
     ) -> Result<Option<Vec<bool>>, AllocError> {
         Ok(None)
     }

@@ -1,54 +1,73 @@
 //! Where references begin to look for the declarations of their members.
-ghost use Rattle.std.specs.Prelude.{◌≡◌, map, IfOk, OnOk};
-ghost use Rattle.hierarchy.specs.private.Flags.{AreNumbers, GetsNumber, KeepNumbers, IsStart, AreStarts};
-ghost use Rattle.hierarchy.specs.Summary.{reference_of};
+ghost use Rattle.std.specs.Prelude.{◌≡◌, ◌+◌, ℕ, List, length, IfOk, OnOk};
+ghost use Rattle.hierarchy.specs.private.Above.{Numbers};
+ghost use Rattle.hierarchy.specs.private.Flags.{AreNumbers, KeepNumbers, IsStart, AreStarts, place_above};
+ghost use Rattle.hierarchy.specs.private.TextNumbers.{AreGiven, OfEach};
+ghost use Rattle.hierarchy.specs.Summary.{asked, references_of};
 
-use crate::member_references::MemberRef;
+use crate::member_references::References;
 use crate::spot::Spot;
+use crate::summary::MemberPlaces;
+use crate::text_numbers::Numbering;
+use crate::texts::{place_among, text_among};
 use std::alloc::{AllocError, Global};
 use std::collections::BTreeMap;
 
-/// The number of a text, which gets the next one where it has none.
-pub fn number_of<'a>(
-    numbers: &mut BTreeMap<&'a [u8], usize>,
-    text: &'a [u8],
-) -> Result<usize, AllocError>
-    requires { AreNumbers numbers.old }
-    ensures { IfOk result (GetsNumber numbers.old numbers.new text.entry.now) }
+/// The place of the class of this name, if it stands above a class.
+fn place_above(class: &[u8], places: &BTreeMap<&[u8], usize>, name: &[u8]) -> Option<usize>
+    ensures { result ≡ place_above places.now class.now name.now }
 {
-    if let Some(number) = numbers.get(text) {
-        return Ok(*number);
+    if name == class {
+        return None;
     }
-    let number = numbers.len();
-    numbers.insert(text, number)?;
-    Ok(number)
+    places.get(name).copied()
 }
 
-/// The spot from which a reference of a class looks upward.
-fn start_of<'a>(
+/// The place of each class of these names, if it stands above a class; and behind them of the class without a name.
+fn places_above(
+    alloc: Global,
     class: &[u8],
     places: &BTreeMap<&[u8], usize>,
-    reference: &MemberRef<'a>,
+    names: &[&[u8]],
+) -> Result<Vec<Option<usize>>, AllocError>
+    ensures long { IfOk result (λ above. length above.items ≡ length names.now + 1) }
+    ensures each { IfOk result (λ above. OfEach (λ name o. o ≡ place_above places.now class.now name)
+        names.now above.items) }
+{
+    let mut above = Vec::with_capacity(alloc, names.len() + 1)?;
+    for place in 0..names.len() + 1 {
+        let name = text_among(names, place);
+        above.push(place_above(class, places, name))?;
+    }
+    Ok(above)
+}
+
+/// The spot from which a member is looked for upward, where its class stands above.
+fn start_of<'a>(
+    place: Option<usize>,
+    member: MemberPlaces,
+    numbering: &mut Numbering<'_, 'a>,
     numbers: &mut BTreeMap<&'a [u8], usize>,
 ) -> Result<Option<Spot>, AllocError>
-    requires { AreNumbers numbers.old }
-    ensures start { IfOk result (IsStart places.now numbers.new class.now (reference_of reference.now)) }
+    requires good { AreNumbers numbers.old }
+    requires given { AreGiven numbers.old numbering.old }
+    ensures start { IfOk result (λ start. (places : Numbers) (class name : List ℕ)
+        → place ≡ place_above places class name
+        → IsStart places numbers.new class (asked numbering.old.texts.now name member) start) }
     ensures kept { OnOk result (KeepNumbers numbers.old numbers.new) }
     ensures good { OnOk result (AreNumbers numbers.new) }
+    ensures given { OnOk result (AreGiven numbers.new numbering.new) }
+    ensures same { OnOk result (numbering.new.texts.now ≡ numbering.old.texts.now) }
 {
-    if reference.class == class {
-        return Ok(None);
-    }
-    let Some(place) = places.get(reference.class) else {
+    let Some(place) = place else {
         return Ok(None);
     };
-    let place = *place;
-    let name = number_of(numbers, reference.name)?;
-    let descriptor = number_of(numbers, reference.descriptor)?;
+    let name = numbering.number(numbers, member.name)?;
+    let descriptor = numbering.number(numbers, member.descriptor)?;
     Ok(Some(Spot {
         name,
         descriptor,
-        kind: reference.kind,
+        kind: member.kind,
         place,
     }))
 }
@@ -59,17 +78,20 @@ pub fn starts_of<'a>(
     alloc: Global,
     class: &[u8],
     places: &BTreeMap<&[u8], usize>,
-    references: &[MemberRef<'a>],
+    references: &References<'a>,
     numbers: &mut BTreeMap<&'a [u8], usize>,
 ) -> Result<Vec<Option<Spot>>, AllocError>
     requires { AreNumbers numbers.old }
     ensures starts { IfOk result (λ s. AreStarts places.now numbers.new class.now
-        (map reference_of references.now) s.items) }
+        (references_of references.now) s.items) }
     ensures good { OnOk result (AreNumbers numbers.new) }
 {
-    let mut starts = Vec::with_capacity(alloc, references.len())?;
-    for reference in references {
-        let start = start_of(class, places, reference, numbers)?;
+    let above = places_above(alloc, class, places, &references.classes)?;
+    let mut numbering = Numbering::new(alloc, &references.texts)?;
+    let mut starts = Vec::with_capacity(alloc, references.members.len())?;
+    for reference in &references.members {
+        let place = above[place_among(&references.classes, reference.class)];
+        let start = start_of(place, reference.places, &mut numbering, numbers)?;
         starts.push(start)?;
     }
     Ok(starts)

@@ -7,12 +7,22 @@ pub enum Kind {
     Method,
 }
 
-/// A field or method, by the bytes of its name and descriptor.
+/// A field or method, by its kind and the places of its texts in a list. A place past the last text stands for the empty
+/// one.
 #[derive(Clone, Copy, Debug, PartialEq, Eq)]
-pub struct MemberSummary<'a> {
-    pub name: &'a [u8],
-    pub descriptor: &'a [u8],
+pub struct MemberPlaces {
     pub kind: Kind,
+    /// The place of its name.
+    pub name: usize,
+    /// The place of its descriptor.
+    pub descriptor: usize,
+}
+
+/// A field or method of a class.
+#[derive(Clone, Copy, Debug, PartialEq, Eq)]
+pub struct MemberSummary {
+    /// Its kind, and the places of its name and descriptor among the texts of its class.
+    pub places: MemberPlaces,
     /// Its flag ACC_STATIC.
     pub is_static: bool,
     /// Its flag ACC_PROTECTED.
@@ -29,6 +39,8 @@ pub struct Summary<'a> {
     pub interface: bool,
     /// Its flag ACC_FINAL.
     pub is_final: bool,
+    /// The names and descriptors of its members. A long one stands here once, however many members have it.
+    pub texts: Vec<&'a [u8]>,
     /// Its fields and methods in the order of its file.
-    pub members: Vec<MemberSummary<'a>>,
+    pub members: Vec<MemberSummary>,
 }

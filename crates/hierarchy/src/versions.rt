@@ -1,6 +1,6 @@
 //! Versions of an array of numbers, which share nodes.
-ghost use Rattle.std.specs.Prelude.{◌≡◌, ℕ, List, [], ◌∷◌, ◌++◌, length, Ok, IfOk};
-ghost use Rattle.hierarchy.specs.private.Versions.{AreVersions, IsVersion, Puts, value_at};
+ghost use Rattle.std.specs.Prelude.{◌≡◌, ℕ, List, [], ◌∷◌, ◌++◌, length, Ok, IfOk, OnOk};
+ghost use Rattle.hierarchy.specs.private.Versions.{AreVersions, IsAdded, IsSplit, IsVersion, Most, Puts, PutsAll, Takes, value_at};
 
 use std::alloc::{AllocError, Global};
 
@@ -11,6 +11,58 @@ pub struct Node {
     value: usize,
     odd: usize,
     even: usize,
+}
+
+/// A value for an index of a version.
+#[derive(Clone, Copy)]
+pub struct Put {
+    pub index: usize,
+    pub value: usize,
+}
+
+/// Values for the node at the top of a version, and for the two nodes below it.
+#[derive(Drop)]
+struct Split {
+    value: usize,
+    odd: Vec<Put>,
+    even: Vec<Put>,
+}
+
+impl Split {
+    /// Takes a value more, which counts in place of one before for the same index.
+    fn take(&mut self, put: Put) -> Result<(), AllocError>
+        ensures { OnOk result (Takes self.old self.new put) }
+    {
+        if put.index == 0 {
+            self.value = put.value;
+            return Ok(());
+        }
+        let below = Put {
+            index: (put.index - 1) / 2,
+            value: put.value,
+        };
+        if put.index % 2 == 1 {
+            self.odd.push(below)?;
+        } else {
+            self.even.push(below)?;
+        }
+        Ok(())
+    }
+}
+
+/// The values for a version, by the nodes that they are for, where the one at the top has a value.
+fn split_by_node(alloc: Global, value: usize, puts: &[Put]) -> Result<Split, AllocError>
+    ensures { IfOk result (IsSplit value puts.now) }
+{
+    let mut split = Split {
+        value,
+        odd: Vec::new(alloc),
+        even: Vec::new(alloc),
+    };
+    for put in puts {
+        split.take(*put)?;
+    }
+    Ok(split)
 }
 
 /// Versions of an array of numbers, each named by its node at the top. Version 0 has zeros alone, and each other one
@@ -93,5 +145,50 @@ impl Versions {
             return Ok(version);
         }
         self.put_new(version, index, value)
+    }
+
+    // The version that has this node at the top: the one that is there, or a new one.
+    fn at_top(&mut self, version: usize, node: Node) -> Result<usize, AllocError>
+        requires good { AreVersions self.old }
+        requires there { IsVersion self.old version }
+        requires odd { IsVersion self.old node.odd }
+        requires even { IsVersion self.old node.even }
+        ensures { IfOk result (IsAdded self.old self.new node) }
+    {
+        let is = self.nodes[version];
+        if is.value == node.value && is.odd == node.odd && is.even == node.even {
+            return Ok(version);
+        }
+        self.push(node)
+    }
+
+    /// The version that has each of these values at its index, and otherwise what another version has. Of several values
+    /// for one index the last counts. No index is above `most`. Each node on the way to one of these indices is copied
+    /// once, however many of them it leads to.
+    pub fn put_all(
+        &mut self,
+        version: usize,
+        puts: &[Put],
+        most: usize,
+    ) -> Result<usize, AllocError>
+        requires good { AreVersions self.old }
+        requires there { IsVersion self.old version }
+        requires most { Most most puts.now }
+        ensures { IfOk result (PutsAll self.old self.new version puts.now) }
+    {
+        if puts.is_empty() {
+            return Ok(version);
+        }
+        let node = self.nodes[version];
+        let split = split_by_node(*self.nodes.allocator(), node.value, puts)?;
+        if most == 0 {
+            let value = split.value;
+            return self.at_top(version, Node { value, ..node });
+        }
+        let below = (most - 1) / 2;
+        let odd = self.put_all(node.odd, &split.odd, below)?;
+        let even = self.put_all(node.even, &split.even, below)?;
+        let value = split.value;
+        self.at_top(version, Node { value, odd, even })
     }
 }

@@ -16,6 +16,7 @@ fn summary<'a>(alloc: Global, name: &'a [u8], superclass: Option<&'a [u8]>) -> S
         superclass,
         interface: false,
         is_final: false,
+        texts: Vec::new(alloc),
         members: Vec::new(alloc),
     }
 }

@@ -1,7 +1,7 @@
 -- The text and the status of a call.
 use Rattle.std.proofs.Common.{◌≡◌, ◌∙◌, ℕ, suc, ◌+◌, List, [], ◌∷◌, ◌++◌, length, take, drop, map, Some, Ok, inl, inr, refl, sym, ap, subst}
 use Rattle.answers.specs.Answers.{Answered, Says}
-use Rattle.answers.specs.Files.{File}
+use Rattle.answers.specs.Files.{Input}
 use Rattle.answers.specs.declared.command.Command.{Command}
 use Rattle.libclassck.specs.Calls.{Told, NothingAsked, Answers, no_status}
 use Rattle.libclassck.specs.Files.{AreFiles, AreReads, ends_from}
@@ -20,7 +20,7 @@ ends_count : (bytes ends : List ℕ) (files : List (List ℕ)) → AreFiles byte
 ends_count bytes ends files are = ap length are.places ∙ as_many 0 files
 
 -- of files that `f` sees, and reads that `v` sees
-pub told_by : {X R : Type 0} (f : X → List ℕ) (v : R → File) (r : Request) (bytes ends before text : List ℕ) (status : ℕ) (files lent : List X) (command : Command)
+pub told_by : {X R : Type 0} (f : X → List ℕ) (v : R → Input) (r : Request) (bytes ends before text : List ℕ) (status : ℕ) (files lent : List X) (command : Command)
     (reads given : List R) → Asks r (length ends) command → AreFiles bytes ends (map f files) → lent ≡ files → AreReads (map f lent) (map v reads) → given ≡ reads
     → before ≡ [] → Answered (Says command (map v given)) (Some before) (Some text) (Ok status) → Told r bytes ends text status
 told_by {X = X} {R = R} f v r bytes ends before text status files lent command reads given asks are is read same none answered =

@@ -1,7 +1,7 @@
 -- The answer of a call.
 use Rattle.std.specs.Prelude.{◌≡◌, ◌⊎◌, ◌++◌, ℕ, List, length, take, drop}
 use Rattle.answers.specs.Answers.{Says}
-use Rattle.answers.specs.Files.{File}
+use Rattle.answers.specs.Files.{Input}
 use Rattle.answers.specs.declared.command.Command.{Command}
 use Rattle.libclassck.specs.Files.{AreFiles, AreReads}
 use Rattle.libclassck.specs.Requests.{Asks}
@@ -16,7 +16,7 @@ pub record Told (r : Request) (bytes ends text : List ℕ) (status : ℕ) : Type
   pub held : AreFiles bytes ends files
   pub command : Command
   pub asked : Asks r (length files) command
-  pub reads : List File
+  pub reads : List Input
   pub read : AreReads files reads
   pub said : Says command reads text status
 

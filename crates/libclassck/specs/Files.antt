@@ -4,7 +4,7 @@ use Rattle.std.specs.List.{flat_map}
 use Rattle.layout.specs.declared.fault.ReadFault.{ReadFault}
 use Rattle.classfile.specs.Outline.{OutlineFault}
 use Rattle.file_reads.specs.FileReads.{ReadsOn, BeginsWith}
-use Rattle.answers.specs.Files.{File}
+use Rattle.answers.specs.Files.{Input}
 
 -- where each of the files ends, of which the first begins at `start`
 abbrev pub ends_from : ℕ → List (List ℕ) → List ℕ
@@ -18,14 +18,14 @@ pub record AreFiles (bytes ends : List ℕ) (files : List (List ℕ)) : Type 0 w
 
 -- The part that the program reads of a file with these bytes: the class that it begins with, and one byte more; or the fault of
 -- its outline, and bytes in front of it.
-abbrev pub IsReadOf : List ℕ → File → Type 0
+abbrev pub IsReadOf : List ℕ → Input → Type 0
 IsReadOf bytes file =
-    ((given : List ℕ) × ReadsOn bytes given × (file ≡ record { read = Ok given; held = given }))
+    ((given : List ℕ) × ReadsOn bytes given × (file ≡ record { bytes = Ok given; held = given }))
     ⊎ ((e : ReadFault) × (given : List ℕ) × OutlineFault bytes e × BeginsWith bytes given
-    × (file ≡ record { read = Err e; held = given }))
+    × (file ≡ record { bytes = Err e; held = given }))
 
 -- what it reads of each
-abbrev pub AreReads : List (List ℕ) → List File → Type 0
+abbrev pub AreReads : List (List ℕ) → List Input → Type 0
 AreReads [] [] = Unit {0}
 AreReads (bytes ∷ others) (file ∷ files) = IsReadOf bytes file × AreReads others files
 AreReads _ _ = ⊥

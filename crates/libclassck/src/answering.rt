@@ -7,16 +7,19 @@ use crate::files::{files_of, read_files};
 use crate::no_answer::NoAnswer;
 use crate::request::{Request, command_of};
 use crate::seed::Seed;
+use crate::text::Text;
 use answers::answer;
 use std::alloc::Global;
 use std::hash::RandomState;
 
-/// The status and the text that answer a request about the files that the bytes are, or why there are none.
+/// The status and the text that answer a request about the files that the bytes are, or why there are none. A text that
+/// has over 64 MiB more than the room is none, as where memory runs out.
 pub fn answered(
     alloc: Global,
     request: &Request,
     bytes: &[u8],
     ends: &[u32],
+    room: usize,
 ) -> Result<(u8, Vec<u8>), NoAnswer>
     ensures told { IfOk result (λ x. Told request.now bytes.now ends.now x.1.items x.0) }
     ensures none { IfErr result (λ e. e ≡ NotAsked → NothingAsked request.now bytes.now ends.now) }
@@ -31,7 +34,7 @@ pub fn answered(
     let Ok(hasher) = RandomState::new(&Seed(request.seed)) else {
         return Err(NoAnswer::OutOfMemory);
     };
-    let mut text = Vec::new(alloc);
+    let mut text = Text::for_room(alloc, room);
     let status = answer(alloc, command, &reads, hasher, &mut text)?;
-    Ok((status, text))
+    Ok((status, text.bytes))
 }

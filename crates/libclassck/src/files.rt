@@ -1,6 +1,6 @@
 //! The files of a call.
 ghost use Rattle.std.specs.Prelude.{◌≡◌, ℕ, List, IfOk, MatchOption, map};
-ghost use Rattle.answers.specs.Files.{file_view};
+ghost use Rattle.answers.specs.Files.{input_view};
 ghost use Rattle.libclassck.specs.Files.{AreFiles, IsReadOf, AreReads};
 
 use classfile::CutShort;
@@ -40,7 +40,7 @@ pub fn files_of<'a>(
 
 /// A file in memory, as the program reads one.
 fn read_file(alloc: Global, file: &[u8]) -> Result<Result<Vec<u8>, CutShort>, AllocError>
-    ensures { IfOk result (λ read. IsReadOf file.now (file_view read)) }
+    ensures { IfOk result (λ read. IsReadOf file.now (input_view read)) }
 {
     match read_bytes(alloc, file) {
         Ok(bytes) => Ok(Ok(bytes)),
@@ -56,7 +56,7 @@ pub fn read_files(
     alloc: Global,
     files: &[&[u8]],
 ) -> Result<Vec<Result<Vec<u8>, CutShort>>, AllocError>
-    ensures { IfOk result (λ reads. AreReads (map (λ file. file.now) files.now) (map file_view reads.items)) }
+    ensures { IfOk result (λ reads. AreReads (map (λ file. file.now) files.now) (map input_view reads.items)) }
 {
     let mut reads = Vec::with_capacity(alloc, files.len())?;
     for file in files {

@@ -4,7 +4,8 @@
 //!
 //! - `request`: what a call asks for, and the command for that.
 //! - `files`: the files of a call, from bytes that hold them one after the other.
-//! - `answering`: the text and the status; `no_answer`: why there are none; `seed`: the keys of hashes.
+//! - `answering`: the text and the status; `text`: the text as it is written; `no_answer`: why there are none; `seed`:
+//!   the keys of hashes.
 //!
 //! Definitions: `specs/Calls.antt` has what a call answers, by `Requests` and `Files`.
 #![tactic(auto)]
@@ -14,6 +15,7 @@ mod files;
 mod no_answer;
 mod request;
 mod seed;
+mod text;
 
 ghost use Rattle.std.specs.Prelude.{◌≡◌, ◌++◌, length, take, drop};
 ghost use Rattle.libclassck.specs.Calls.{Answers};
@@ -43,7 +45,8 @@ fn put(text: &[u8], room: &mut [u8])
 /// `bytes` at which it ends. The text goes to `room`, as far as that reaches. Nothing is kept between calls.
 ///
 /// The status is 2, and the room is as before, where the request is none, an end lies before the one in front of it or
-/// behind the bytes, or bytes are left after the last end. It is 3 where memory runs out.
+/// behind the bytes, or bytes are left after the last end. It is 3 where memory runs out or
+/// the text has over 64 MiB more than the room.
 #[unsafe(no_mangle)]
 pub extern "C" fn classck_answer(
     alloc: Global,
@@ -55,7 +58,7 @@ pub extern "C" fn classck_answer(
 )
     ensures { Answers request.now bytes.now ends.now room.old room.new outcome.new }
 {
-    match answered(alloc, request, bytes, ends) {
+    match answered(alloc, request, bytes, ends, room.len()) {
         Ok((status, text)) => {
             put(&text, room);
             outcome.status = u32::from(status);

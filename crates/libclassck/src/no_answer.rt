@@ -12,7 +12,7 @@ pub enum NoAnswer {
     /// 2: the request is none, or the ends are not those of files that are all of the bytes.
     #[error("nothing can be asked so")]
     NotAsked,
-    /// 3: memory ran out.
+    /// 3: memory ran out, or the text is longer than it may be.
     #[error("refused 1")]
     OutOfMemory,
 }
@@ -44,7 +44,7 @@ impl From<AnswerFault> for NoAnswer {
 
     ghost from_gives = { λ _ e. e ≡ none.OutOfMemory };
 
-    // The text is written to memory, so a write fails only where that runs out.
+    // The text is written to memory, so a write fails only where that runs out, or the text is longer than it may be.
     fn from(_fault: AnswerFault) -> NoAnswer {
         NoAnswer::OutOfMemory
     }

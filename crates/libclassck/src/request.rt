@@ -1,7 +1,9 @@
 //! Requests: a command, and what goes with it.
-ghost use Rattle.std.specs.Prelude.{◌≡◌, ◌↔◌, ◌+◌, ◌<◌, IsTrue, IfSome, IfNone};
+ghost use Rattle.std.specs.Prelude.{◌↔◌, IsTrue, IfSome, IfNone};
 ghost use Rattle.answers.specs.declared.command.Command.{Command};
-ghost use Rattle.libclassck.specs.Requests.{Asks, Names, MayJudge, json, dynamic};
+ghost use Rattle.answers.specs.declared.command.Form.{Form as FormFact};
+ghost use Rattle.classfile.specs.declared.profile.Profile.{Profile as ProfileFact};
+ghost use Rattle.libclassck.specs.Requests.{Asks, HaveOptions, Names, MayJudge};
 
 use answers::{Command, Form};
 use classfile::Profile;
@@ -12,7 +14,8 @@ use classfile::Profile;
 pub struct Request {
     /// The command: 1 `check`, 2 `show`, 3 `verify`, 4 `explain`, 5 `play`, 6 `verify-each`.
     pub command: u32,
-    /// The sum of the options that are given, of those that the command has: 1 `--json`, 2 `--dynamic`.
+    /// The sum of the options that are given, of those that the command has: 1 `--json`; and 2 `--dynamic`, or 256 times
+    /// N for `--release N`.
     pub options: u32,
     /// How many files are to be judged, from the first on: 1 for `check`, `show`, `verify` and `explain`, all for
     /// `play`. The others are known classes.
@@ -24,27 +27,31 @@ pub struct Request {
 
 /// The form and the profile that a sum of options stands for.
 fn options_of(options: u32) -> Option<(Form, Profile)>
-    ensures some { IfSome result (λ x. options ≡ json x.0 + dynamic x.1) }
-    ensures none { IfNone result (3 < options) }
+    ensures some { IfSome result (λ x. HaveOptions options x.0 x.1) }
+    ensures none { IfNone result ((form : FormFact) (profile : ProfileFact) → HaveOptions options form profile → ⊥) }
 {
-    match options {
-        0 => Some((Form::Plain, Profile::Default)),
-        1 => Some((Form::Json, Profile::Default)),
-        2 => Some((Form::Plain, Profile::Dynamic)),
-        3 => Some((Form::Json, Profile::Dynamic)),
+    let form = if options % 2 == 1 {
+        Form::Json
+    } else {
+        Form::Plain
+    };
+    match (options / 2 % 128, options / 256) {
+        (0, 0) => Some((form, Profile::Default)),
+        (1, 0) => Some((form, Profile::Dynamic)),
+        (0, number) if 7 <= number && number <= 27 => Some((form, Profile::Release(number as u8))),
         _ => None,
     }
 }
 
 /// The command of this number with these options, if there is one.
 fn named(request: &Request, form: Form, profile: Profile) -> Option<Command>
-    requires { request.now.options ≡ json form + dynamic profile }
+    requires { HaveOptions request.now.options form profile }
     ensures some { IfSome result (λ command. Names request.now command) }
     ensures none { IfNone result ((command : Command) → Names request.now command → ⊥) }
 {
     match (request.command, form, profile) {
-        (1, form, Profile::Default) => Some(Command::Check(form)),
-        (2, Form::Plain, Profile::Default) => Some(Command::Show),
+        (1, form, Profile::Default | Profile::Release(_)) => Some(Command::Check(form, profile)),
+        (2, Form::Plain, Profile::Default | Profile::Release(_)) => Some(Command::Show(profile)),
         (3, form, profile) => Some(Command::Verify(form, profile)),
         (4, form, profile) => Some(Command::Explain(form, profile)),
         (5, Form::Plain, profile) => Some(Command::Play(profile)),
@@ -61,7 +68,7 @@ fn may_judge(command: Command, classes: usize, count: usize) -> bool
     ensures { IsTrue result ↔ MayJudge command classes count }
 {
     match command {
-        Command::Check(_) | Command::Show => classes == 1 && count == 1,
+        Command::Check(_, _) | Command::Show(_) => classes == 1 && count == 1,
         Command::Verify(_, _) | Command::Explain(_, _) => classes == 1 && 1 <= count,
         Command::Play(_) => classes == count && 1 <= count,
         Command::VerifyEach { .. } => 1 <= classes && classes <= count,

@@ -1,6 +1,8 @@
+use crate::declaring::{Declared, Row, declaring, place_in};
 use crate::making::{hasher, object};
 use hierarchy::{
-    Classes, HierarchyFault, Kind, MemberRef, MemberSummary, Prepared, Rows, Summary, guarded,
+    Classes, HierarchyFault, Kind, MemberPlaces, MemberRef, Prepared, References, Rows, Summary,
+    guarded,
 };
 use names::OBJECT;
 use std::alloc::{AllocError, Global};
@@ -9,10 +11,10 @@ use std::test::*;
 /// A field of type int.
 macro_rules! field {
     ($name:expr, $is_protected:expr) => {
-        MemberSummary {
+        Declared {
+            kind: Kind::Field,
             name: $name,
             descriptor: b"I",
-            kind: Kind::Field,
             is_static: false,
             is_protected: $is_protected,
         }
@@ -20,27 +22,24 @@ macro_rules! field {
 }
 
 /// Four protected members, one of them static and one a method.
-const OF_Q: [MemberSummary<'static>; 4] = [
+const OF_Q: [Declared<'static>; 4] = [
     field!(b"x", true),
     field!(b"y", true),
-    MemberSummary {
+    Declared {
+        kind: Kind::Field,
         name: b"s",
         descriptor: b"I",
-        kind: Kind::Field,
         is_static: true,
         is_protected: true,
     },
-    MemberSummary {
+    Declared {
+        kind: Kind::Method,
         name: b"m",
         descriptor: b"()V",
-        kind: Kind::Method,
         is_static: false,
         is_protected: true,
     },
 ];
-
-/// The name of a class, that of its superclass, and the members that it declares.
-type Row<'a> = (&'a [u8], &'a [u8], &'a [MemberSummary<'a>]);
 
 /// `p/Q` and `p/P` below it declare members, of which one is public in between, and below that are classes of four
 /// packages. `B`, which declares members too, is in the package without a name, as is `L` below it.
@@ -56,35 +55,58 @@ const CLASSES: [Row<'static>; 9] = [
     (b"p/L", b"B", &[]),
 ];
 
-/// A class below another, with members.
-fn declaring<'a>(
-    name: &'a [u8],
-    superclass: &'a [u8],
-    members: Vec<MemberSummary<'a>>,
-) -> Summary<'a> {
-    Summary {
-        name,
-        superclass: Some(superclass),
-        interface: false,
-        is_final: false,
-        members,
-    }
-}
-
 /// The summaries of `java/lang/Object` and of those classes.
 fn summaries(alloc: Global) -> Result<Vec<Summary<'static>>, AllocError> {
     let mut list = Vec::new(alloc);
     list.push(object(alloc))?;
-    for (name, superclass, members) in &CLASSES {
-        list.push(declaring(*name, *superclass, members.to_vec(alloc)?))?;
+    for row in &CLASSES {
+        list.push(declaring(alloc, row)?)?;
     }
     Ok(list)
+}
+
+/// A reference by its texts.
+#[derive(Clone, Copy)]
+struct Asked<'a> {
+    class: &'a [u8],
+    kind: Kind,
+    name: &'a [u8],
+    descriptor: &'a [u8],
+}
+
+/// Refers to a member.
+fn refer<'a>(references: &mut References<'a>, asked: &Asked<'a>) -> Result<(), AllocError> {
+    let class = place_in(&mut references.classes, asked.class)?;
+    let name = place_in(&mut references.texts, asked.name)?;
+    let descriptor = place_in(&mut references.texts, asked.descriptor)?;
+    references.members.push(MemberRef {
+        class,
+        places: MemberPlaces {
+            kind: asked.kind,
+            name,
+            descriptor,
+        },
+    })?;
+    Ok(())
+}
+
+/// The references to these members.
+fn references_to<'a>(alloc: Global, members: &[Asked<'a>]) -> Result<References<'a>, AllocError> {
+    let mut references = References {
+        classes: Vec::new(alloc),
+        texts: Vec::new(alloc),
+        members: Vec::new(alloc),
+    };
+    for asked in members {
+        refer(&mut references, asked)?;
+    }
+    Ok(references)
 }
 
 /// A reference to a field of type int.
 macro_rules! field_of {
     ($class:expr, $name:expr) => {
-        MemberRef {
+        Asked {
             class: $class,
             kind: Kind::Field,
             name: $name,
@@ -95,25 +117,25 @@ macro_rules! field_of {
 
 /// A declaration two classes up, and one that is public in between; a static one; a method; other descriptors and
 /// kinds; the own class K, one below it and one beside it; and a class above that declares nothing.
-const REFERENCES: [MemberRef<'static>; 12] = [
+const REFERENCES: [Asked<'static>; 12] = [
     field_of!(b"p/P", b"x"),
     field_of!(b"p/Q", b"x"),
     field_of!(b"p/P", b"y"),
     field_of!(b"p/Q", b"y"),
     field_of!(b"p/P", b"s"),
-    MemberRef {
+    Asked {
         class: b"p/P",
         kind: Kind::Method,
         name: b"m",
         descriptor: b"()V",
     },
-    MemberRef {
+    Asked {
         class: b"p/P",
         kind: Kind::Field,
         name: b"m",
         descriptor: b"()V",
     },
-    MemberRef {
+    Asked {
         class: b"p/P",
         kind: Kind::Field,
         name: b"x",
@@ -128,7 +150,7 @@ const REFERENCES: [MemberRef<'static>; 12] = [
 /// The references of a class, and which of them are guarded.
 struct Expected<'e> {
     class: &'e [u8],
-    references: &'e [MemberRef<'e>],
+    references: &'e [Asked<'e>],
     guarded: &'e [bool],
 }
 
@@ -138,7 +160,8 @@ fn guard<C: Classes>(
     classes: &C,
     expected: &Expected<'_>,
 ) -> Result<bool, AllocError> {
-    let answers = guarded(alloc, classes, expected.class, expected.references)?;
+    let references = references_to(alloc, expected.references)?;
+    let answers = guarded(alloc, classes, expected.class, &references)?;
     Ok(answers.as_slice() == expected.guarded)
 }
 

@@ -5,6 +5,7 @@
 //! |---|---|
 //! | `superclasses` | `hierarchy`: lists of classes, and summaries of class files |
 //! | `ancestor_rows` | `hierarchy`: rows of ancestors |
+//! | `summaries` | `hierarchy`: summaries compared, and texts of a pool kept once |
 //! | `guarded_members` | `hierarchy`: references to protected members of other packages |
 //! | `assignability` | `frames`: one type or frame where another is wanted |
 //! | `differences` | `frames`: the first difference of two frames, and the first class that is missing |
@@ -15,6 +16,7 @@
 //! | `shared_rows` | `blocks`: rows of numbers, changed, declared, taken on and compared |
 //! | `expected_types` | `rules`: what instructions name, their ways, what a frame lacks, and reasons together |
 //! | `printed_text` | `printing`: texts of class files, names and faults |
+//! | `declaring` | classes with members, for two of them |
 //! | `making` | what several of them, and of those in `public_calls`, stand on |
 //!
 //! A test with `memory` in its name passes also where any one allocation fails; `tests/run/allocations` runs those so.
@@ -26,6 +28,8 @@ mod ancestor_rows;
 mod assignability;
 #[cfg(test)]
 mod declared_frames;
+#[cfg(test)]
+mod declaring;
 #[cfg(test)]
 mod differences;
 #[cfg(test)]
@@ -45,5 +49,7 @@ mod printed_text;
 mod shared_rows;
 #[cfg(test)]
 mod stack_maps;
+#[cfg(test)]
+mod summaries;
 #[cfg(test)]
 mod superclasses;

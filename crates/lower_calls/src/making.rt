@@ -1,6 +1,6 @@
 //! Values that tests of several files use: class files, summaries of classes, and frames.
 use frames::{Frame, VType};
-use hierarchy::{Kind, MemberSummary, Summary};
+use hierarchy::{Kind, MemberPlaces, MemberSummary, Summary};
 use names::{Base, OBJECT, Primitive};
 use std::alloc::{AllocError, Global};
 use std::hash::{BuildHasherDefault, FoldHasher};
@@ -65,6 +65,7 @@ pub fn summary<'a>(
         superclass,
         interface,
         is_final: false,
+        texts: Vec::new(alloc),
         members: Vec::new(alloc),
     }
 }
@@ -77,10 +78,14 @@ pub fn object<'a>(alloc: Global) -> Summary<'a> {
 /// The summary of `java/lang/Object` with its method `clone`, which is protected.
 fn object_with_clone<'a>(alloc: Global) -> Result<Summary<'a>, AllocError> {
     let mut above = object(alloc);
+    above.texts.push(b"clone")?;
+    above.texts.push(b"()Ljava/lang/Object;")?;
     above.members.push(MemberSummary {
-        name: b"clone",
-        descriptor: b"()Ljava/lang/Object;",
-        kind: Kind::Method,
+        places: MemberPlaces {
+            kind: Kind::Method,
+            name: 0,
+            descriptor: 1,
+        },
         is_static: false,
         is_protected: true,
     })?;

@@ -393,7 +393,7 @@ fn changes_are_told<C: Classes>(
 {
     let alike = frames.first_unequal(0, 0).is_none() && frames.count() == 1;
     let before = changed(frames) == [Some(18), None];
-    frames.keep_locals();
+    frames.keep_locals()?;
     let kept = changed(frames) == [None, None];
     frames.forget(9)?;
     Ok(alike && before && kept && changed(frames) == [Some(18), None])

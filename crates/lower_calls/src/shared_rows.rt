@@ -138,7 +138,7 @@ fn top_is_wanted(alloc: Global) -> Result<bool, AllocError> {
 }
 
 /// Whether a declared row, which differs from the running one everywhere, is said to fit, and is compared again where
-/// the running one changes, and only in that block.
+/// the running one changes, and only there.
 fn is_noted(arena: &mut Arena, row: Row, place: usize) -> Result<bool, AllocError>
     requires { row < length arena.old.declared }
 {
@@ -149,7 +149,7 @@ fn is_noted(arena: &mut Arena, row: Row, place: usize) -> Result<bool, AllocErro
     let changed = arena.first_undecided(row, 0);
     arena.note_fit(row);
     let again = arena.first_undecided(row, 0);
-    Ok(before == Some(0) && noted.is_none() && changed == Some(place / 16 * 16) && again.is_none())
+    Ok(before == Some(0) && noted.is_none() && changed == Some(place) && again.is_none())
 }
 
 fn is_noted_among(alloc: Global, count: u16, place: usize) -> Result<bool, AllocError> {
@@ -180,7 +180,7 @@ fn is_unequal(arena: &Arena, row: Row, other: Row, place: usize) -> bool
 /// Whether it is told where the running row changed since it was kept, and where two declared rows differ.
 fn is_told(arena: &mut Arena, place: usize) -> Result<bool, AllocError> {
     let before = arena.first_changed(0);
-    arena.keep();
+    arena.keep()?;
     let row = arena.declare()?;
     let kept = arena.first_changed(0);
     put(arena, place, 7)?;
@@ -243,13 +243,27 @@ fn is_replaced(arena: &mut Arena, row: Row, last: usize) -> Result<bool, AllocEr
     arena.take(row);
     arena.replace(5, 9)?;
     let again = [running(arena, 0), running(arena, last)];
-    Ok(first == [Some(9), Some(9)] && again == first && stays && arena.has_room())
+    arena.make_room()?;
+    let after = [running(arena, 0), running(arena, last)];
+    Ok(first == [Some(9), Some(9)] && again == first && stays && after == first)
+}
+
+/// Whether 5 can be put where 9 took its place, and 9 stays at this slot, also in a row that is kept then.
+fn is_put_again(arena: &mut Arena, last: usize) -> Result<bool, AllocError> {
+    arena.replace(5, 9)?;
+    put(arena, 0, 5)?;
+    let put = [running(arena, 0), running(arena, last)] == [Some(5), Some(9)];
+    arena.replace(5, 7)?;
+    arena.keep()?;
+    let kept = [running(arena, 0), running(arena, last)] == [Some(7), Some(9)];
+    Ok(put && kept && arena.first_changed(0).is_none())
 }
 
 fn numbers_are_replaced(alloc: Global, count: u16) -> Result<bool, AllocError> {
+    let last = usize::from(count.saturating_sub(1));
     let mut arena = filled(alloc, count, 5)?;
     let row = arena.declare()?;
-    is_replaced(&mut arena, row, usize::from(count.saturating_sub(1)))
+    Ok(is_replaced(&mut arena, row, last)? && is_put_again(&mut filled(alloc, count, 5)?, last)?)
 }
 
 /// Whether an arena begins anew.

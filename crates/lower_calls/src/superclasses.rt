@@ -101,10 +101,15 @@ fn want_of_memory(rt: HostRuntime) {
     );
 }
 
-fn is_member_of_k(member: MemberSummary<'_>) -> bool {
-    member.name == b"f".as_slice()
-        && member.descriptor == b"()V".as_slice()
-        && matches!(member.kind, Kind::Method)
+/// Whether the text at a place is this one.
+fn is_text(texts: &[&[u8]], place: usize, text: &[u8]) -> bool {
+    place < texts.len() && texts[place] == text
+}
+
+fn is_member_of_k(texts: &[&[u8]], member: MemberSummary) -> bool {
+    is_text(texts, member.places.name, b"f")
+        && is_text(texts, member.places.descriptor, b"()V")
+        && matches!(member.places.kind, Kind::Method)
         && member.is_static
         && !member.is_protected
 }
@@ -114,7 +119,7 @@ fn is_summary_of_k(summary: &Summary<'_>) -> bool {
         && matches!(summary.superclass, Some(name) if name == OBJECT)
         && !summary.interface
         && !summary.is_final
-        && matches!(summary.members.as_slice(), [member] if is_member_of_k(*member))
+        && matches!(summary.members.as_slice(), [member] if is_member_of_k(&summary.texts, *member))
 }
 
 /// Whether the summary of the class file is that of K, or none where memory runs out.

@@ -10,7 +10,7 @@ use Rattle.method_frames.specs.Objects.{is_uninitialized, replaced}
 use Rattle.method_frames.specs.private.KnownRows.{AreKnown}
 use Rattle.method_frames.specs.private.Holders.{IsListed, AreListed, AreHeld, KeepsListed, Replaces}
 use Rattle.method_frames.specs.declared.holders.Holders.{Holders}
-use Rattle.method_frames.proofs.Knowing.{at_more, tops_known, taken_known, declared_known, put_known}
+use Rattle.method_frames.proofs.Knowing.{none_held, at_more, tops_known, taken_known, declared_known, put_known}
 
 module _ (x y : Holders) (kept : KeepsListed x y) where
   pub listed_kept : (row : List ℕ) → AreListed x row → AreListed y row
@@ -103,6 +103,20 @@ noted_held s old new x known running declared h = record {
   running = subst (AreListed x) (sym running) h.running;
   declared = λ row lt. subst (λ ds. AreListed x (get_or ds row [])) (sym declared) (h.declared row (subst (λ ds. row < length ds) declared lt));
 }
+
+-- what was said to fit is forgotten
+pub forgotten_held : (s : Numbering) (old new : Rows) (x : Holders) → (new ≡ old) ⊎ (new ≡ record old { known = [] }) → AreHeld s old x → AreHeld s new x
+forgotten_held s old new x (inl e) h = subst (λ rows. AreHeld s rows x) (sym e) h
+forgotten_held s old new x (inr e) h = subst (λ rows. AreHeld s rows x) (sym e) (record {
+  known = record { running = h.known.running; declared = h.known.declared; even = h.known.even; known = λ a b k. none_held k };
+  running = h.running;
+  declared = h.declared;
+})
+
+pub forgotten_rest : (old new : Rows) → (new ≡ old) ⊎ (new ≡ record old { known = [] })
+    → (new.running ≡ old.running) × (new.declared ≡ old.declared) × (new.kept ≡ old.kept)
+forgotten_rest old new (inl e) = (ap (λ r. r.running) e, ap (λ r. r.declared) e, ap (λ r. r.kept) e)
+forgotten_rest old new (inr e) = (ap (λ r. r.running) e, ap (λ r. r.declared) e, ap (λ r. r.kept) e)
 
 -- an item more on top
 pub listed_push : (x : Holders) (row : List ℕ) (n : ℕ) → AreListed x row → (is_uninitialized n ≡ true → IsListed x n (length row)) → AreListed x (row ++ n ∷ [])

@@ -30,7 +30,7 @@ module _ (s : Numbering) (rows : Rows) (x : NumberedRows) (is : view_of s rows �
 
 -- ---- changes
 
-none_held : {P : Type 0} {x : ℕ × ℕ} → Contains [] x → P
+pub none_held : {P : Type 0} {x : ℕ × ℕ} → Contains [] x → P
 none_held h = let lt = h.1 in absurd (omega (arith, lt))
 
 pub tops_known : (s : Numbering) (count : ℕ) → AreKnown s (record { running = replicate count 0; declared = []; kept = replicate count 0; known = [] })

@@ -465,11 +465,14 @@ impl<'t, 'c, 'n, C: Classes> MethodFrames<'t, 'c, 'n, C> {
         both(locals, stack)
     }
 
-    /// Keeps the locals of the running frame as they are, in place of what was kept before. Takes no memory.
-    pub fn keep_locals(&mut self)
-        ensures { self.new ≡ record self.old { kept = self.old.running.locals } }
+    /// Keeps the locals of the running frame as they are, in place of what was kept before. The only refusal is 1, where
+    /// memory runs out.
+    pub fn keep_locals(&mut self) -> Result<(), AllocError>
+        ensures ok { OnOk result (self.new ≡ record self.old { kept = self.old.running.locals }) }
+        ensures err { OnErr result (self.new ≡ self.old) }
     {
-        self.locals.keep();
+        self.locals.keep()?;
+        Ok(())
     }
 
     /// The first local variable from one on whose type is not the one that was kept. Takes no time where nothing

@@ -98,7 +98,7 @@ fn replace_object(
     ensures only { Replaces object by rows.old rows.new }
     ensures all { OnOk result (rows.new.running ≡ map (replaced object by) rows.old.running) }
 {
-    if holders.are_few(object) || !rows.has_room() {
+    if holders.are_few(object) {
         return replace_listed(object, by, holders, rows);
     }
     rows.replace(object, by)
@@ -190,6 +190,14 @@ impl<'t, 'c, 'n, C: Classes> TypeRows<'t, 'c, 'n, C> {
         self.rows.set(place, number)
     }
 
+    /// Takes out what no row has any more, where that is very much. The only refusal is 1.
+    #[inline(never)]
+    fn make_room(&mut self) -> Result<(), AllocError>
+        ensures { self.new ≡ self.old }
+    {
+        self.rows.make_room()
+    }
+
     /// Puts a number in place of an object's, throughout the running row. The only refusal is 1, and then some of the
     /// places may hold that number already.
     pub fn replace(&mut self, object: u32, by: u32) -> Result<(), AllocError>
@@ -205,6 +213,7 @@ impl<'t, 'c, 'n, C: Classes> TypeRows<'t, 'c, 'n, C> {
             → IsNumber s object o → IsNumber s by t → IsObjectType o
             → types_by s self.new.running ≡ map (type_replaced o t) (types_by s self.old.running)) }
     {
+        self.make_room()?;
         self.lacking = None;
         replace_object(object, by, &self.holders, &mut self.rows)
     }
@@ -271,11 +280,13 @@ impl<'t, 'c, 'n, C: Classes> TypeRows<'t, 'c, 'n, C> {
         self.rows.take(row)
     }
 
-    /// Keeps the running row as it is, in place of what was kept before. Takes no memory.
-    pub fn keep(&mut self)
-        ensures { self.new ≡ record self.old { kept = self.old.running } }
+    /// Keeps the running row as it is, in place of what was kept before. The only refusal is 1.
+    pub fn keep(&mut self) -> Result<(), AllocError>
+        ensures ok { OnOk result (self.new ≡ record self.old { kept = self.old.running }) }
+        ensures err { OnErr result (self.new ≡ self.old) }
     {
-        self.rows.keep();
+        self.rows.keep()?;
+        Ok(())
     }
 
     /// The first place from one on at which the running row differs from what was kept. Takes no time where nothing
@@ -382,6 +393,15 @@ impl<'t, 'c, 'n, C: Classes> TypeRows<'t, 'c, 'n, C> {
         (so_far, end)
     }
 
+    /// Does the replacements that are pending in the running row, so that it is compared without them. Without memory
+    /// for that, a comparison takes each place.
+    #[inline(always)]
+    fn settle(&mut self)
+        ensures { self.new ≡ self.old }
+    {
+        let _settled = self.rows.settle();
+    }
+
     /// Whether the types of the running row may stand where those of a declared one are wanted (JVMS 4.10.1.4): no
     /// before missing, and then the first class that is missing. Takes no memory.
     pub fn answer(&mut self, row: Row) -> Answer<'n>
@@ -390,6 +410,7 @@ impl<'t, 'c, 'n, C: Classes> TypeRows<'t, 'c, 'n, C> {
         ensures told { let s = self.old.types in outcome_of result ≡ list_answer (type_answer s.classes)
             (types_by s self.old.running) (types_by s (declared_in self.old row)) }
     {
+        self.settle();
         let (answer, end) = self.answer_anew(row);
         match answer {
             Answer::Yes => {

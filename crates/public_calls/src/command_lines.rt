@@ -42,7 +42,7 @@ fn are_asked(alloc: Global, rows: &[Row<'_>]) -> bool {
 const LINES: [Row<'static>; 4] = [
     (
         &["classck", "check", "--", "-a"],
-        Command::Check(Form::Plain),
+        Command::Check(Form::Plain, Profile::Default),
         1,
         "-a",
     ),
@@ -111,7 +111,7 @@ fn lines_with_dynamic(rt: HostRuntime) {
 const JSON: [Row<'static>; 3] = [
     (
         &["classck", "check", "--json", "K"],
-        Command::Check(Form::Json),
+        Command::Check(Form::Json, Profile::Default),
         1,
         "K",
     ),

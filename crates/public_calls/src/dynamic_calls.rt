@@ -1,4 +1,5 @@
 //! Dynamic calls and constants: looked up, and judged and run where a profile asks for it.
+use crate::verified_files::file;
 use crate::verified_walks::{RIGHT, walk_in};
 use crate::walks::{Stop, Walk, answered_first};
 use classfile::{Bootstraps, ClassFile, Formed, Profile, decode, form_check};
@@ -13,7 +14,7 @@ use rules::Members;
 use std::alloc::{AllocError, Global};
 use std::test::*;
 use verify::{
-    FileRead, MethodVerdict, Verdict, verify_among_under, verify_class_under, verify_together_under,
+    MethodVerdict, Verdict, verify_among_under, verify_class_under, verify_together_under,
 };
 
 /// The class file of a class K whose static method `f` loads the Dynamic constant of int at 11 and drops it, and then
@@ -154,8 +155,8 @@ fn number_of(methods: &[MethodVerdict<'_>]) -> u8 {
 /// The answers on the class that these bytes are, by its bytes and by its file; each is a number, 1 where memory ran
 /// out.
 fn answers(alloc: Global, profile: Profile, bytes: &[u8]) -> (u8, u8) {
-    let known = [FileRead::Bytes(&O)];
-    let among = match verify_among_under(alloc, profile, FileRead::Bytes(bytes), &known, hasher()) {
+    let known = [file(&O)];
+    let among = match verify_among_under(alloc, profile, file(bytes), &known, hasher()) {
         Ok(report) => number_of(&report.methods),
         Err(_) => OUT_OF_MEMORY,
     };
@@ -199,7 +200,7 @@ fn verdicts_by_each_profile(rt: HostRuntime) {
 
 /// Whether the class is in play with Object, each method verified.
 fn plays(alloc: Global, profile: Profile) -> Option<bool> {
-    let files = [FileRead::Bytes(&CALLS), FileRead::Bytes(&O)];
+    let files = [file(&CALLS), file(&O)];
     match verify_together_under(alloc, profile, &files, hasher()) {
         Ok(reports) => Some(reports.len() == 2),
         Err(verify::TogetherFault::OutOfMemory) => None,

@@ -111,13 +111,13 @@ fn is_answered_before(
 
 /// Each command, and its answer on K.
 const ANSWERS: [(Command, &[u8]); 7] = [
-    (Command::Check(Form::Plain), b"ok\n"),
+    (Command::Check(Form::Plain, Profile::Default), b"ok\n"),
     (
-        Command::Check(Form::Json),
+        Command::Check(Form::Json, Profile::Default),
         b"{\"kind\":\"file\",\"answer\":\"ok\"}\n",
     ),
     (
-        Command::Show,
+        Command::Show(Profile::Default),
         b"class K major 52 minor 0 flags 0021\nsuper java/lang/Object\nmethod 0009 f ()V\n  stack 0 locals 0\n  0 return\n",
     ),
     (
@@ -190,7 +190,7 @@ fn unread(alloc: Global, why: ReadFault) -> Result<(Result<u8, AnswerFault>, Vec
     let mut out: Vec<u8> = Vec::new(alloc);
     let status = answer(
         alloc,
-        Command::Check(Form::Plain),
+        Command::Check(Form::Plain, Profile::Default),
         &reads,
         hasher(),
         &mut out,
@@ -236,7 +236,14 @@ fn is_whole_or_memory(
 #[test]
 fn memory_runs_out_for_an_answer(rt: HostRuntime) {
     let reads = beside_object(rt.alloc(), &K);
-    assert!(rt; is_whole_or_memory(rt.alloc(), Command::Check(Form::Plain), reads, (0, 3)));
+    assert!(rt;
+        is_whole_or_memory(
+            rt.alloc(),
+            Command::Check(Form::Plain, Profile::Default),
+            reads,
+            (0, 3)
+        )
+    );
 }
 
 /// Where memory runs out nothing is written, and otherwise the whole explanation of so many bytes.

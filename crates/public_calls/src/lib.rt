@@ -13,6 +13,7 @@
 //! | `judged_files` | `verify`: verdicts on the classes that many files are, each among all of them |
 //! | `classes_in_play` | `verify`: reports on classes that run together |
 //! | `dynamic_calls` | `pool`, `rules`, `verify`: dynamic calls and constants, looked up, judged and run |
+//! | `releases` | `classfile`, `verify`, `answers`: versions of class files, and classes as a release judges them |
 //! | `verified_walks` | `verify`: walks of the machine through methods that are verified |
 //! | `file_answers` | `answers`: what each command answers of files, read or not |
 //! | `command_lines` | `command_line`: what a line asks for, and what the program complains of |
@@ -43,6 +44,8 @@ mod machine_faults;
 mod machine_steps;
 #[cfg(test)]
 mod object_steps;
+#[cfg(test)]
+mod releases;
 #[cfg(test)]
 mod verdicts;
 #[cfg(test)]

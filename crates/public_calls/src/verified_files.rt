@@ -1,4 +1,5 @@
 //! Verdicts on the classes that files are: alone, among known classes, and in play together.
+use classfile::Versions;
 use format_calls::making::{K, O, OUT_OF_MEMORY};
 use layout::ReadFault;
 use lower_calls::making::hasher;
@@ -13,6 +14,14 @@ type Told = Result<usize, (usize, u8)>;
 
 /// A file that could not be read after its first three bytes.
 pub const UNREAD: FileRead<'static> = FileRead::Unread(ReadFault::ReadFailed { at: 3 });
+
+/// A file with these bytes, whose class may be one of Java SE 7 to 17.
+pub fn file<'a>(bytes: &'a [u8]) -> FileRead<'a> {
+    FileRead::Bytes {
+        bytes,
+        versions: Versions::Java7To17,
+    }
+}
 
 /// The class file of K, with these two bytes as the flags of the class, and this byte as the code of its method.
 macro_rules! class_k {
@@ -40,15 +49,30 @@ const FINAL_OBJECT: [u8; 46] = [
     0, 0, 0, 0, 0,
 ];
 
-pub const CLASS: FileRead<'static> = FileRead::Bytes(&K);
+pub const CLASS: FileRead<'static> = FileRead::Bytes {
+    bytes: &K,
+    versions: Versions::Java7To17,
+};
 
-pub const OBJECT: FileRead<'static> = FileRead::Bytes(&O);
+pub const OBJECT: FileRead<'static> = FileRead::Bytes {
+    bytes: &O,
+    versions: Versions::Java7To17,
+};
 
-pub const BAD: FileRead<'static> = FileRead::Bytes(&MALFORMED);
+pub const BAD: FileRead<'static> = FileRead::Bytes {
+    bytes: &MALFORMED,
+    versions: Versions::Java7To17,
+};
 
-pub const FALLS: FileRead<'static> = FileRead::Bytes(&FALLING);
+pub const FALLS: FileRead<'static> = FileRead::Bytes {
+    bytes: &FALLING,
+    versions: Versions::Java7To17,
+};
 
-pub const LAST: FileRead<'static> = FileRead::Bytes(&FINAL_OBJECT);
+pub const LAST: FileRead<'static> = FileRead::Bytes {
+    bytes: &FINAL_OBJECT,
+    versions: Versions::Java7To17,
+};
 
 /// The number by which a file is refused.
 pub fn number_of(fault: &FileFault) -> u8 {
@@ -80,7 +104,7 @@ fn classes_of_files(rt: HostRuntime) {
     for (file, told) in &ALONE {
         assert!(rt; alone(rt.alloc(), *file) == *told);
     }
-    assert!(rt; alone(rt.alloc(), FileRead::Bytes(&K[..96])) == Err((0, 2)));
+    assert!(rt; alone(rt.alloc(), file(&K[..96])) == Err((0, 2)));
 }
 
 fn of_among(fault: &AmongFault<'_>) -> (usize, u8) {

@@ -1,8 +1,10 @@
 -- References to members by the entries of a pool, and the answers that are kept for them.
 use Rattle.std.proofs.Common.{◌≡◌, ◌⊎◌, ℕ, zero, suc, ◌+◌, Bool, true, false, nat_eq, eqb-true, if◌then◌else◌, List, [], ◌∷◌, ◌++◌, length, map, slice_get, Option, Some, None, option_map, Result, Ok, Err, refl, sym, ◌∙◌, ap, subst, inl, inr}
 use Rattle.std.specs.Option.{option_and_then}
+use Rattle.std.specs.Result.{result_unwrap_or}
 use Rattle.std.specs.Str.{bytes_eq}
-use Rattle.std.proofs.lemmas.List.{length-append, length-map, map-append}
+use Rattle.std.proofs.lemmas.Option.{slice_get-map}
+use Rattle.std.proofs.lemmas.List.{length-append}
 use Rattle.std.proofs.lemmas.Slice.Eq.{bytes_eq-Decides}
 use Rattle.names.specs.Descriptors.{FieldDescriptor, MethodDescriptor}
 use Rattle.names.specs.Descriptors as descriptors
@@ -11,7 +13,7 @@ use Rattle.names.specs.Reading.{field_answer, method_answer}
 use Rattle.names.specs.ReferenceTypes.{ReferenceType, class_type, array_type, begins_array, array_of, reference_type}
 use Rattle.pool.specs.declared.fault.PoolFault.{PoolFault}
 use Rattle.pool.specs.Entries.{Entry, Class, Fieldref, Methodref, NameAndType}
-use Rattle.pool.specs.Lookups.{FieldOf, MethodOf, class_name_at, field_ref_at, method_ref_at, StandsAt, HasMember, methodref}
+use Rattle.pool.specs.Lookups.{FieldOf, MethodOf, class_name_at, text_at, field_ref_at, method_ref_at, StandsAt, HasMember, methodref}
 use Rattle.pool.specs.ConstantMeanings.{found, constant_at, FieldConstant, field_of_class, field_constant, field_at, MethodConstant, method_of_class, method_constant, method_at}
 use Rattle.pool.proofs.LookupLaws.{stands_entry, stands_text, stands_class, field_stands, method_stands}
 use Rattle.classfile.specs.declared.class_file.ClassFile.{ClassFile}
@@ -23,11 +25,16 @@ use Rattle.hierarchy.specs.declared.summary.Kind.TheVariants as kinds
 use Rattle.hierarchy.specs.declared.member_references.MemberRef.{MemberRef}
 use Rattle.hierarchy.specs.Class.{ClassFact}
 use Rattle.hierarchy.specs.Nearest.{MemberReference, is_guarded}
-use Rattle.hierarchy.specs.Summary.{reference_of}
+use Rattle.hierarchy.specs.declared.texts.Texts.{Texts}
+use Rattle.hierarchy.specs.ClassSummary.{text_of}
+use Rattle.hierarchy.specs.Summary.{reference_of, references_of}
+use Rattle.hierarchy.specs.Texts.{HasPlace}
+use Rattle.hierarchy.proofs.Names.{some_same}
+use Rattle.hierarchy.proofs.TextPlaces.{among_of}
 use Rattle.rules.specs.declared.guards.Guards.{Guards}
 use Rattle.rules.specs.declared.guards.Key.{Key}
-use Rattle.rules.specs.declared.guards.References.{References}
-use Rattle.rules.specs.Guards.{own_name, IsReference, field, method, is_of, names_own, key_by, other_key, with_texts, read_key, read_entry, IsPlaced, IsKeyed, AreKeyed, Numbers, Reads, AreRead, AreGuards}
+use Rattle.rules.specs.declared.guards.Read.{Read}
+use Rattle.rules.specs.Guards.{own_name, IsReference, field, method, is_of, names_own, key_by, other_key, with_texts, read_key, read_entry, IsPlaced, AreReadFrom, HasNumber, Numbers, Reads, AreReadSoFar, AreRead, AreGuards, references_read}
 use Rattle.rules.specs.Protected.{field_reference, method_reference}
 
 -- ---- the entry that is a reference
@@ -224,81 +231,99 @@ get_cases (z ∷ xs) x (suc i) y e = next (get_cases xs x i y e)
     next (inl h) = inl h
     next (inr h) = inr (ap suc h.0, h.1)
 
--- ---- one reference more, with its key
+-- ---- one reference more
 
-module _ (pool : List Entry) (old : References) (keyed : AreKeyed pool old) (k : Key) (m : MemberRef) (is : IsKeyed pool k m)
-    (now : References) (keys : now.keys.items ≡ old.keys.items ++ k ∷ []) (references : now.references.items ≡ old.references.items ++ m ∷ []) where
-  mapped : map reference_of now.references.items ≡ map reference_of old.references.items ++ reference_of m ∷ []
-  mapped = ap (map reference_of) references ∙ map-append reference_of old.references.items (m ∷ [])
+-- the texts of a reference are those at its indices
+key_texts : (pool : List Entry) (k : Key) (r : MemberReference) → read_key pool k ≡ Some r
+    → (text_of pool k.class ≡ r.class) × (k.kind ≡ r.kind) × (text_of pool k.name ≡ r.name) × (text_of pool k.descriptor ≡ r.descriptor)
+key_texts pool k r e = by (text_at pool k.class) (text_at pool k.name) (text_at pool k.descriptor) e
+  where
+    by : (c n d : Result (List ℕ) PoolFault) → with_texts k.kind c n d ≡ Some r
+        → (result_unwrap_or c [] ≡ r.class) × (k.kind ≡ r.kind) × (result_unwrap_or n [] ≡ r.name) × (result_unwrap_or d [] ≡ r.descriptor)
+    by (Ok c) (Ok n) (Ok d) e =
+        let same : ◌≡◌ {A = MemberReference} (record { class = c; kind = k.kind; name = n; descriptor = d }) r = some_same e in
+        (ap (λ (x : MemberReference). x.class) same, ap (λ (x : MemberReference). x.kind) same, ap (λ (x : MemberReference). x.name) same, ap (λ (x : MemberReference). x.descriptor) same)
+    by (Err x) n d e = cc
+    by (Ok c) (Err x) d e = cc
+    by (Ok c) (Ok n) (Err x) e = cc
 
-  last : slice_get (map reference_of now.references.items) (length old.references.items) ≡ Some (reference_of m)
-  last =
-      ap (λ xs. slice_get xs (length old.references.items)) mapped
-      ∙ ap (λ n. slice_get (map reference_of old.references.items ++ reference_of m ∷ []) n) (sym (length-map old.references.items reference_of))
-      ∙ get_last (map reference_of old.references.items) (reference_of m)
+module _ (pool : List Entry) (old new : Read) (between : Texts) (k : Key) (m : MemberRef) (members : new.members.items ≡ old.members.items ++ m ∷ []) (class : HasPlace pool old.classes new.classes k.class m.class)
+    (name : HasPlace pool old.texts between k.name m.places.name) (descriptor : HasPlace pool between new.texts k.descriptor m.places.descriptor) (kind : m.places.kind ≡ k.kind) where
+  here : (r : MemberReference) → read_key pool k ≡ Some r → HasNumber new (length old.members.items) r
+  here r e =
+      let t = key_texts pool k r e in
+      record {
+        member = m;
+        here = ap (λ xs. slice_get xs (length old.members.items)) members ∙ get_last old.members.items m;
+        class = class.here ∙ ap (λ z. Some z) t.0;
+        kind = kind ∙ t.1;
+        name = descriptor.kept _ _ (name.here ∙ ap (λ z. Some z) t.2);
+        descriptor = descriptor.here ∙ ap (λ z. Some z) t.3;
+      }
 
-  kept_there : (n : ℕ) (x : MemberReference) → slice_get (map reference_of old.references.items) n ≡ Some x → slice_get (map reference_of now.references.items) n ≡ Some x
-  kept_there n x e = ap (λ xs. slice_get xs n) mapped ∙ get_first (map reference_of old.references.items) (reference_of m ∷ []) n x e
+  pub added : Numbers pool old new k (length old.members.items)
+  added = record {
+    here = here;
+    kept = λ n r h. record {
+      member = h.member;
+      here = ap (λ xs. slice_get xs n) members ∙ get_first old.members.items (m ∷ []) n h.member h.here;
+      class = class.kept _ _ h.class;
+      kind = h.kind;
+      name = descriptor.kept _ _ (name.kept _ _ h.name);
+      descriptor = descriptor.kept _ _ (name.kept _ _ h.descriptor);
+    };
+    good = record { classes = class.good; texts = descriptor.good };
+  }
 
-  keyed_there : (number : ℕ) (other : Key) → slice_get now.keys.items number ≡ Some other
-      → (r : MemberReference) × (read_key pool other ≡ Some r) × (slice_get (map reference_of now.references.items) number ≡ Some r)
-  keyed_there number other e = by (get_cases old.keys.items k number other (ap (λ xs. slice_get xs number) (sym keys) ∙ e))
-    where
-      by : (slice_get old.keys.items number ≡ Some other) ⊎ ((number ≡ length old.keys.items) × (k ≡ other))
-          → (r : MemberReference) × (read_key pool other ≡ Some r) × (slice_get (map reference_of now.references.items) number ≡ Some r)
-      by (inl h) = let x = keyed.each number other h in (x.0, x.1, kept_there number x.0 x.2)
-      by (inr h) = (reference_of m, ap (read_key pool) (sym h.1) ∙ is, ap (slice_get (map reference_of now.references.items)) (h.0 ∙ keyed.together) ∙ last)
-
-  pub added : Numbers pool old now (reference_of m) (length old.references.items)
-  added = record { here = last; kept = kept_there; keyed = record { together = as_long; each = keyed_there } }
-    where
-      as_long : length now.keys.items ≡ length now.references.items
-      as_long =
-          ap length keys ∙ length-append old.keys.items (k ∷ []) ∙ ap (λ n. n + 1) keyed.together ∙ sym (length-append old.references.items (m ∷ []))
-          ∙ sym (ap length references)
+-- the reference of a number, by its texts
+reads_number : (rs : Read) (number : ℕ) (r : MemberReference) → HasNumber rs number r
+    → slice_get (references_of (references_read rs)) number ≡ Some r
+reads_number rs number r h =
+    let references = references_read rs in
+    let class = among_of rs.classes.list.items h.member.class r.class h.class in
+    let name = among_of rs.texts.list.items h.member.places.name r.name h.name in
+    let descriptor = among_of rs.texts.list.items h.member.places.descriptor r.descriptor h.descriptor in
+    slice_get-map (reference_of references) rs.members.items number ∙ ap (option_map (reference_of references)) h.here
+    ∙ λ i. Some (record { class = class i; kind = h.kind i; name = name i; descriptor = descriptor i })
 
 -- ---- one entry after the other
 
-pub none_read : (c : ClassFile) (references : List MemberRef) → AreRead c [] [] references
-none_read c references = record { all = refl; each = λ place e r h k. cc }
+pub none_read : (c : ClassFile) (rs : Read) → AreReadFrom c.constant_pool rs → AreReadSoFar c [] [] rs
+none_read c rs good = record { all = refl; each = λ place e r h k. cc; good = good }
 
-pub one_more : (c : ClassFile) (done : List Entry) (places : List ℕ) (x : Entry) (old now : References) (number : ℕ) → AreRead c done places old.references.items
-    → Reads c x old now number → AreRead c (done ++ x ∷ []) (places ++ number ∷ []) now.references.items
+pub one_more : (c : ClassFile) (done : List Entry) (places : List ℕ) (x : Entry) (old now : Read) (number : ℕ) → AreReadSoFar c done places old
+    → Reads c x old now number → AreReadSoFar c (done ++ x ∷ []) (places ++ number ∷ []) now
 one_more c done places x old now number so_far reads = record {
   all = length-append places (number ∷ []) ∙ ap (λ n. n + 1) so_far.all ∙ sym (length-append done (x ∷ []));
   each = λ place e r h k. by place e r k (get_cases done x place e h);
+  good = reads.good;
 }
   where
     by : (place : ℕ) (e : Entry) (r : MemberReference) → read_entry c e ≡ Some r → (slice_get done place ≡ Some e) ⊎ ((place ≡ length done) × (x ≡ e))
-        → IsPlaced (places ++ number ∷ []) (map reference_of now.references.items) place r
-    by place e r k (inl h) =
-        let p = so_far.each place e r h k in
-        record { number = p.number; placed = get_first places (number ∷ []) place p.number p.placed; there = reads.kept p.number r p.there }
-    by place e r k (inr h) = record {
-      number = number;
-      placed = ap (slice_get (places ++ number ∷ [])) (h.0 ∙ sym so_far.all) ∙ get_last places number;
-      there = reads.here r (ap (read_entry c) h.1 ∙ k);
-    }
+        → (n : ℕ) × (slice_get (places ++ number ∷ []) place ≡ Some n) × HasNumber now n r
+    by place e r k (inl h) = let p = so_far.each place e r h k in (p.0, get_first places (number ∷ []) place p.0 p.1, reads.kept p.0 r p.2)
+    by place e r k (inr h) =
+        (number, ap (slice_get (places ++ number ∷ [])) (h.0 ∙ sym so_far.all) ∙ get_last places number, reads.here r (ap (read_entry c) h.1 ∙ k))
+
+pub all_read : (c : ClassFile) (places : List ℕ) (rs : Read) → AreReadSoFar c c.constant_pool places rs
+    → AreRead c places (references_of (references_read rs))
+all_read c places rs so_far place e r h k =
+    let p = so_far.each place e r h k in
+    record { number = p.0; placed = p.1; there = reads_number rs p.0 r p.2 }
 
 -- ---- the answers
 
-pub guards_are : (classes : List ClassFact) (c : ClassFile) (g : Guards) (references : List MemberRef) → AreRead c c.constant_pool g.places.items references
-    → g.answers.items ≡ map (λ m. is_guarded classes (own_name c) (reference_of m)) references → AreGuards classes c g
+pub guards_are : (classes : List ClassFact) (c : ClassFile) (g : Guards) (references : List MemberReference) → AreRead c g.places.items references
+    → g.answers.items ≡ map (is_guarded classes (own_name c)) references → AreGuards classes c g
 guards_are classes c g references are answers = record {
   each = λ place e r h k.
-      let p = are.each place e r h k in
+      let p = are place e r h k in
       record {
         number = p.number;
         placed = p.placed;
-        there = ap (λ xs. slice_get xs p.number) answers ∙ answered references p.number r p.there;
+        there = ap (λ xs. slice_get xs p.number) answers ∙ slice_get-map (is_guarded classes (own_name c)) references p.number ∙ ap (option_map (is_guarded classes (own_name c))) p.there;
       };
 }
-  where
-    answered : (ms : List MemberRef) (n : ℕ) (r : MemberReference) → slice_get (map reference_of ms) n ≡ Some r
-        → slice_get (map (λ m. is_guarded classes (own_name c) (reference_of m)) ms) n ≡ Some (is_guarded classes (own_name c) r)
-    answered [] n r h = cc
-    answered (m ∷ ms) zero r h = let same : Some (reference_of m) ≡ Some r = h in ap (option_map (is_guarded classes (own_name c))) same
-    answered (m ∷ ms) (suc n) r h = answered ms n r h
 
 pub answer_at : (classes : List ClassFact) (c : ClassFile) (g : Guards) (index : ℕ) (r : MemberReference) → AreGuards classes c g → names_own c index ≡ false
     → IsReference c.constant_pool index r → (place : ℕ) × (index ≡ place + 1) × IsPlaced g.places.items g.answers.items place (is_guarded classes (own_name c) r)

@@ -13,13 +13,14 @@ use Rattle.classfile.specs.MethodParts.{or_empty}
 use Rattle.hierarchy.specs.declared.summary.Kind.{Kind}
 use Rattle.hierarchy.specs.declared.summary.Kind.TheVariants as kinds
 use Rattle.hierarchy.specs.declared.member_references.MemberRef.{MemberRef}
+use Rattle.hierarchy.specs.declared.member_references.References.{References}
 use Rattle.hierarchy.specs.Class.{ClassFact}
 use Rattle.hierarchy.specs.Nearest.{MemberReference, is_guarded}
-use Rattle.hierarchy.specs.Summary.{reference_of}
+use Rattle.hierarchy.specs.Texts.{AreTexts, kept_texts}
 use Rattle.insn.specs.Meanings.{Act}
 use Rattle.rules.specs.declared.guards.Guards.{Guards}
 use Rattle.rules.specs.declared.guards.Key.{Key}
-use Rattle.rules.specs.declared.guards.References.{References}
+use Rattle.rules.specs.declared.guards.Read.{Read}
 use Rattle.rules.specs.declared.protected_members.Use as uses
 use Rattle.rules.specs.Protected.{Use, field_reference, method_reference, used_by}
 
@@ -75,10 +76,6 @@ read_key pool k = with_texts k.kind (text_at pool k.class) (text_at pool k.name)
 abbrev pub read_entry : ClassFile → Entry → Option MemberReference
 read_entry c e = option_and_then (read_key c.constant_pool) (key_of c e)
 
--- a key and its reference
-abbrev pub IsKeyed : List Entry → Key → MemberRef → Type 0
-IsKeyed pool k r = read_key pool k ≡ Some (reference_of r)
-
 -- ---- answers
 
 -- the thing that is kept for a place: the place has a number, and the thing has this number
@@ -87,34 +84,51 @@ pub record IsPlaced {A : Type 0} (places : List ℕ) (kept : List A) (place : �
   pub placed : slice_get places place ≡ Some number
   pub there : slice_get kept number ≡ Some x
 
--- each key has its reference beside it
-pub record AreKeyed (pool : List Entry) (rs : References) : Type 0 where
-  pub together : length rs.keys.items ≡ length rs.references.items
-  pub each : (number : ℕ) (k : Key) → slice_get rs.keys.items number ≡ Some k
-      → (r : MemberReference) × (read_key pool k ≡ Some r)
-      × (slice_get (map reference_of rs.references.items) number ≡ Some r)
+-- the texts of the references are those of the pool
+pub record AreReadFrom (pool : List Entry) (rs : Read) : Type 0 where
+  pub classes : AreTexts pool rs.classes
+  pub texts : AreTexts pool rs.texts
 
--- the reference has this number now, and each that was there before has the number that it had
-pub record Numbers (pool : List Entry) (old now : References) (r : MemberReference) (number : ℕ) : Type 0 where
-  pub here : slice_get (map reference_of now.references.items) number ≡ Some r
-  pub kept : (n : ℕ) (x : MemberReference) → slice_get (map reference_of old.references.items) n ≡ Some x
-      → slice_get (map reference_of now.references.items) n ≡ Some x
-  pub keyed : AreKeyed pool now
+-- the reference has this number, and its texts are among those of the references
+pub record HasNumber (rs : Read) (number : ℕ) (r : MemberReference) : Type 0 where
+  pub member : MemberRef
+  pub here : slice_get rs.members.items number ≡ Some member
+  pub class : slice_get (kept_texts rs.classes) member.class ≡ Some r.class
+  pub kind : member.places.kind ≡ r.kind
+  pub name : slice_get (kept_texts rs.texts) member.places.name ≡ Some r.name
+  pub descriptor : slice_get (kept_texts rs.texts) member.places.descriptor ≡ Some r.descriptor
 
--- the reference to which an entry leads, if it leads to one, has this number now, and each before has the number that
--- it had
-pub record Reads (c : ClassFile) (e : Entry) (old now : References) (number : ℕ) : Type 0 where
-  pub here : (r : MemberReference) → read_entry c e ≡ Some r
-      → slice_get (map reference_of now.references.items) number ≡ Some r
-  pub kept : (n : ℕ) (x : MemberReference) → slice_get (map reference_of old.references.items) n ≡ Some x
-      → slice_get (map reference_of now.references.items) n ≡ Some x
-  pub keyed : AreKeyed c.constant_pool now
+-- the references, with the texts that they share
+abbrev pub references_read : Read → References
+references_read rs = record { classes = rs.classes.list; texts = rs.texts.list; members = rs.members }
+
+-- each reference that had a number has it still
+abbrev pub KeepNumbers : Read → Read → Type 0
+KeepNumbers old now = (number : ℕ) (r : MemberReference) → HasNumber old number r → HasNumber now number r
+
+-- the reference of these indices has this number now
+pub record Numbers (pool : List Entry) (old now : Read) (k : Key) (number : ℕ) : Type 0 where
+  pub here : (r : MemberReference) → read_key pool k ≡ Some r → HasNumber now number r
+  pub kept : KeepNumbers old now
+  pub good : AreReadFrom pool now
+
+-- the reference to which an entry leads, if it leads to one, has this number now
+pub record Reads (c : ClassFile) (e : Entry) (old now : Read) (number : ℕ) : Type 0 where
+  pub here : (r : MemberReference) → read_entry c e ≡ Some r → HasNumber now number r
+  pub kept : KeepNumbers old now
+  pub good : AreReadFrom c.constant_pool now
 
 -- the references to which these entries, the first ones of the pool, lead
-pub record AreRead (c : ClassFile) (entries : List Entry) (places : List ℕ) (references : List MemberRef) : Type 0 where
+pub record AreReadSoFar (c : ClassFile) (entries : List Entry) (places : List ℕ) (rs : Read) : Type 0 where
   pub all : length places ≡ length entries
   pub each : (place : ℕ) (e : Entry) (r : MemberReference) → slice_get entries place ≡ Some e → read_entry c e ≡ Some r
-      → IsPlaced places (map reference_of references) place r
+      → (number : ℕ) × (slice_get places place ≡ Some number) × HasNumber rs number r
+  pub good : AreReadFrom c.constant_pool rs
+
+-- the references to which all entries of the pool lead
+abbrev pub AreRead : ClassFile → List ℕ → List MemberReference → Type 0
+AreRead c places references = (place : ℕ) (e : Entry) (r : MemberReference) → slice_get c.constant_pool place ≡ Some e
+    → read_entry c e ≡ Some r → IsPlaced places references place r
 
 pub record AreGuards (classes : List ClassFact) (c : ClassFile) (g : Guards) : Type 0 where
   pub each : (place : ℕ) (e : Entry) (r : MemberReference) → slice_get c.constant_pool place ≡ Some e

@@ -1,25 +1,22 @@
 //! Which constants of a class name guarded members: protected members of superclasses in other packages, which the
 //! class may use only on objects of its own (JVMS 4.10.1.8).
-ghost use Rattle.std.specs.Prelude.{◌≡◌, true, false, [], List, option_map, slice_get, Some, IfOk, IfSome};
+ghost use Rattle.std.specs.Prelude.{◌≡◌, false, List, IfOk};
 ghost use Rattle.names.specs.References.{reference_view};
+ghost use Rattle.pool.specs.Entries.{Entry};
 ghost use Rattle.pool.specs.Entries.{Entry};
 ghost use Rattle.pool.specs.ConstantMeanings.{constant_at};
 ghost use Rattle.pool.specs.Views.{view};
 ghost use Rattle.classfile.specs.declared.class_file.ClassFile.{ClassFile};
 ghost use Rattle.hierarchy.specs.Class.{ClassFact};
 ghost use Rattle.hierarchy.specs.Nearest.{MemberReference, is_guarded};
-ghost use Rattle.hierarchy.specs.Summary.{reference_of};
-ghost use Rattle.rules.specs.Guards.{AreGuards, AreKeyed, AreRead, IsKeyed, IsReference, Numbers, Reads, key_by, key_of, names_own, own_name, read_entry, read_key};
+ghost use Rattle.hierarchy.specs.Summary.{references_of};
+ghost use Rattle.rules.specs.Guards.{AreGuards, AreRead, AreReadFrom, IsReference, Numbers, Reads, key_by, key_of, names_own, own_name, references_read};
 
 use crate::declaring_class::class_named;
 use classfile::ClassFile;
-use hierarchy::{Classes, Kind, MemberRef, guarded};
+use hierarchy::{Classes, Kind, MemberPlaces, MemberRef, References, Texts, guarded};
 use pool::{Constant, Pool};
 use std::alloc::{AllocError, Global};
-use std::collections::BTreeMap;
-
-/// Texts of up to so many bytes are short: a reference with short texts is put in again each time it is met.
-const SHORT: usize = 256;
 
 /// A reference to a member by the indices of its texts.
 #[derive(Clone, Copy)]
@@ -30,13 +27,12 @@ pub struct Key {
     descriptor: u16,
 }
 
-/// References to members. One with a long text is there only once.
+/// References to members as they are read, with their texts: names of classes once, and so are long texts.
 #[derive(Drop)]
-pub struct References<'a> {
-    keys: Vec<Key>,
-    references: Vec<MemberRef<'a>>,
-    // The numbers of the references with a long text.
-    long: BTreeMap<(u16, u16, u16), usize>,
+pub struct Read<'a> {
+    classes: Texts<'a>,
+    texts: Texts<'a>,
+    members: Vec<MemberRef>,
 }
 
 /// For each constant of a pool in turn a number, and for each number an answer: whether the member is guarded that the
@@ -108,132 +104,64 @@ fn key_of<'a>(class: &ClassFile<'a>, constant: Constant<'a>) -> Option<Key>
     key_by(&class.constant_pool, kind, named, name_and_type)
 }
 
-/// The reference of these texts.
-fn read_key<'a>(pool: &Pool<'a>, key: Key) -> Option<MemberRef<'a>>
-    ensures { option_map reference_of result ≡ read_key pool.now key }
-{
-    let Ok(class) = pool.text(key.class) else {
-        return None;
-    };
-    let Ok(name) = pool.text(key.name) else {
-        return None;
-    };
-    let Ok(descriptor) = pool.text(key.descriptor) else {
-        return None;
-    };
-    Some(MemberRef {
-        class: class.bytes(),
-        kind: key.kind,
-        name: name.bytes(),
-        descriptor: descriptor.bytes(),
-    })
-}
-
-/// The reference to which a constant leads, with the indices of its texts; none for a member of the class itself.
-fn read_constant<'a>(class: &ClassFile<'a>, constant: Constant<'a>) -> Option<(Key, MemberRef<'a>)>
-    ensures read { option_map (λ x. reference_of x.1) result ≡ read_entry class.now (view constant.entry) }
-    ensures keyed { IfSome result (λ x. IsKeyed class.now.constant_pool x.0 x.1) }
-{
-    let key = key_of(class, constant)?;
-    let reference = read_key(&class.constant_pool, key)?;
-    Some((key, reference))
-}
-
-/// Whether one of the texts is long.
-fn is_long(reference: &MemberRef<'_>) -> bool {
-    reference.class.len() > SHORT
-        || reference.name.len() > SHORT
-        || reference.descriptor.len() > SHORT
-}
-
-/// Whether the texts of two references stand at the same indices.
-fn is_same(one: Key, other: Key) -> bool
-    ensures { result ≡ true → one ≡ other }
-{
-    one.kind == other.kind
-        && one.class == other.class
-        && one.name == other.name
-        && one.descriptor == other.descriptor
-}
-
-impl<'a> References<'a> {
-    /// No reference.
-    fn new(alloc: Global) -> References<'a>
-        ensures none { result.references.items ≡ [] }
-        ensures keyed { (pool : List Entry) → AreKeyed pool result }
+impl<'a> Read<'a> {
+    /// No reference, and room for those that most classes with so many constants have.
+    fn new(alloc: Global, constants: usize) -> Result<Read<'a>, AllocError>
+        ensures { IfOk result (λ read. (pool : List Entry) → AreReadFrom pool read) }
     {
+        let members = constants / 4;
+        Ok(Read {
+            classes: Texts::with_room(alloc, members / 4)?,
+            texts: Texts::with_room(alloc, constants / 2)?,
+            members: Vec::with_capacity(alloc, members)?,
+        })
+    }
+
+    /// Puts the reference of these indices after all others, and returns its number.
+    fn add(&mut self, pool: &Pool<'a>, key: Key) -> Result<usize, AllocError>
+        requires { AreReadFrom pool.now self.old }
+        ensures { IfOk result (Numbers pool.now self.old self.new key) }
+    {
+        let number = self.members.len();
+        let class = self.classes.place_once(pool, key.class)?;
+        let name = self.texts.place(pool, key.name)?;
+        let descriptor = self.texts.place(pool, key.descriptor)?;
+        let places = MemberPlaces {
+            kind: key.kind,
+            name,
+            descriptor,
+        };
+        self.members.push(MemberRef { class, places })?;
+        Ok(number)
+    }
+
+    /// The references with their texts.
+    fn into_references(self) -> References<'a>
+        ensures { references_of result ≡ references_of (references_read self.entry) }
+    {
+        let classes = self.classes;
+        let texts = self.texts;
         References {
-            keys: Vec::new(alloc),
-            references: Vec::new(alloc),
-            long: BTreeMap::new(alloc),
+            classes: classes.list,
+            texts: texts.list,
+            members: self.members,
         }
-    }
-
-    // Puts a reference after all others, and returns its number.
-    fn add(
-        &mut self,
-        _pool: &Pool<'_>,
-        key: Key,
-        reference: MemberRef<'a>,
-    ) -> Result<usize, AllocError>
-        requires keyed { AreKeyed _pool.now self.old }
-        requires reference { IsKeyed _pool.now key reference }
-        ensures { IfOk result (Numbers _pool.now self.old self.new (reference_of reference.entry)) }
-    {
-        let number = self.references.len();
-        self.references.push(reference)?;
-        self.keys.push(key)?;
-        Ok(number)
-    }
-
-    // The number of a reference that is there already, if it has a long text.
-    fn find(&self, key: Key) -> Option<usize>
-        ensures { IfSome result (λ n. slice_get self.now.keys.items n ≡ Some key) }
-    {
-        let number = *self.long.get(&(key.class, key.name, key.descriptor))?;
-        if number < self.keys.len() && is_same(self.keys[number], key) {
-            Some(number)
-        } else {
-            None
-        }
-    }
-
-    // The number of a reference, which is put in unless it has a long text and is there already.
-    fn number(
-        &mut self,
-        pool: &Pool<'_>,
-        key: Key,
-        reference: MemberRef<'a>,
-    ) -> Result<usize, AllocError>
-        requires keyed { AreKeyed pool.now self.old }
-        requires reference { IsKeyed pool.now key reference }
-        ensures { IfOk result (Numbers pool.now self.old self.new (reference_of reference.entry)) }
-    {
-        if !is_long(&reference) {
-            return self.add(pool, key, reference);
-        }
-        if let Some(number) = self.find(key) {
-            return Ok(number);
-        }
-        let number = self.add(pool, key, reference)?;
-        self.long
-            .insert((key.class, key.name, key.descriptor), number)?;
-        Ok(number)
     }
 }
 
-/// The number of the reference to which a constant leads, if it leads to one, and any number otherwise.
+/// The number of the reference to which a constant leads, if it leads to one of another class than the class itself, and
+/// any number otherwise.
 fn number_of<'a>(
     class: &ClassFile<'a>,
     constant: Constant<'a>,
-    references: &mut References<'a>,
+    read: &mut Read<'a>,
 ) -> Result<usize, AllocError>
-    requires { AreKeyed class.now.constant_pool references.old }
-    ensures { IfOk result (Reads class.now (view constant.entry) references.old references.new) }
+    requires { AreReadFrom class.now.constant_pool read.old }
+    ensures { IfOk result (Reads class.now (view constant.entry) read.old read.new) }
 {
-    match read_constant(class, constant) {
+    match key_of(class, constant) {
         None => Ok(0),
-        Some((key, reference)) => references.number(&class.constant_pool, key, reference),
+        Some(key) => read.add(&class.constant_pool, key),
     }
 }
 
@@ -241,16 +169,16 @@ fn number_of<'a>(
 fn read_all<'a>(
     alloc: Global,
     class: &ClassFile<'a>,
-) -> Result<(Vec<usize>, Vec<MemberRef<'a>>), AllocError>
-    ensures { IfOk result (λ x. AreRead class.now class.now.constant_pool x.0.items x.1.items) }
+) -> Result<(Vec<usize>, References<'a>), AllocError>
+    ensures { IfOk result (λ x. AreRead class.now x.0.items (references_of x.1)) }
 {
     let constants = class.constant_pool.constants();
     let mut places = Vec::with_capacity(alloc, constants.len())?;
-    let mut references = References::new(alloc);
+    let mut read = Read::new(alloc, constants.len())?;
     for constant in constants {
-        places.push(number_of(class, *constant, &mut references)?)?;
+        places.push(number_of(class, *constant, &mut read)?)?;
     }
-    Ok((places, references.references))
+    Ok((places, read.into_references()))
 }
 
 impl Guards {

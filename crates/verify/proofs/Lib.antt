@@ -20,7 +20,6 @@ pub mod Ways
 pub mod EntriesAtFault
 pub mod Detailed
 pub mod Onward
-pub mod Summaries
 pub mod MethodCode
 pub mod InitialNumbers
 pub mod Named

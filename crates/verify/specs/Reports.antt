@@ -6,6 +6,7 @@ use Rattle.classfile.specs.Values.{Member, Class}
 use Rattle.classfile.specs.Methods.{JudgedClass}
 use Rattle.classfile.specs.CodeMethods.{judged}
 use Rattle.classfile.specs.declared.profile.Profile.{Profile}
+use Rattle.classfile.specs.Versions.{judged_versions}
 use Rattle.classfile.specs.ClassFile as class_files
 use Rattle.classfile.specs.ClassFile.{IsClass}
 use Rattle.classfile.specs.WellFormed.{WellFormed, IsFirstFault}
@@ -53,8 +54,9 @@ Reports classes c (Err (Malformed rule place)) = ⊥
 -- answer about a class that is well formed
 abbrev pub ReportsBytes : Profile → List ClassFact → List ℕ → Result Report ClassFault → Type 0
 ReportsBytes profile classes bytes (Err OutOfMemory) = Unit {0}
-ReportsBytes profile classes bytes (Err (NoClass fault)) = class_files.ClassFault bytes fault
-ReportsBytes profile classes bytes (Err (Malformed rule place)) = (c : Class) × IsClass bytes c
-    × IsFirstFault c rule place
-ReportsBytes profile classes bytes answer = (c : Class) × IsClass bytes c × WellFormed c
+ReportsBytes profile classes bytes (Err (NoClass fault)) =
+    class_files.ClassFault (judged_versions profile) bytes fault
+ReportsBytes profile classes bytes (Err (Malformed rule place)) = (c : Class)
+    × IsClass (judged_versions profile) bytes c × IsFirstFault c rule place
+ReportsBytes profile classes bytes answer = (c : Class) × IsClass (judged_versions profile) bytes c × WellFormed c
     × Reports classes (judged profile c) answer

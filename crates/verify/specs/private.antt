@@ -10,7 +10,6 @@ pub mod MetNames
 pub mod PlaySteps
 pub mod Ran
 pub mod Ready
-pub mod SameSummaries
 pub mod Targets
 pub mod TogetherSteps
 pub mod Ways

@@ -242,7 +242,7 @@ fn reports_decoded<'a, S: BuildHasher + Drop>(
 /// refused like one that is not a class.
 ///
 /// The first of these refusals that holds is returned: a file is refused by its reading, by
-/// [`decode`](classfile::decode) or by [`form_check`](classfile::form_check), the first that is; [`Rows::new`] refuses
+/// [`decode_under`](classfile::decode_under) or by [`form_check`](classfile::form_check), the first that is; [`Rows::new`] refuses
 /// the summaries (40 to 46); the superclass of a class is final (81) or one of its methods is refused, the first such
 /// class, with the verdict on its first such method. 1 where memory ran out.
 pub fn verify_together<'a, S: BuildHasher + Drop>(

@@ -4,7 +4,9 @@ ghost use Rattle.classfile.specs.Views.{class_view};
 ghost use Rattle.verify.specs.Files.{read_of, IsDecoded, IsFormed, OrMemory};
 ghost use Rattle.verify.specs.private.FileSteps.{Forms, Summarises};
 
-use classfile::{ClassFile, FormFault, FormRule, Formed, Place, decode, form_check};
+use classfile::{
+    ClassFile, FormFault, FormRule, Formed, Place, Versions, decode_under, form_check,
+};
 use hierarchy::{Summary, summary_of};
 use layout::ReadFault;
 use std::alloc::{AllocError, Global};
@@ -13,8 +15,8 @@ use thiserror::Error;
 /// The bytes that were read of a file, or why there are none.
 #[derive(Clone, Copy, Debug)]
 pub enum FileRead<'a> {
-    /// All its bytes.
-    Bytes(&'a [u8]),
+    /// All its bytes, and the versions that its class may have.
+    Bytes { bytes: &'a [u8], versions: Versions },
     /// It could not be read, or not to its end.
     Unread(ReadFault),
 }
@@ -36,11 +38,16 @@ pub enum FileFault {
     Malformed { rule: FormRule, place: Place },
 }
 
-/// The class file that bytes are, as [`decode`] answers it.
-fn decoded<'a>(alloc: Global, bytes: &'a [u8]) -> Result<ClassFile<'a>, FileFault>
-    ensures { MatchResult result (λ c. IsDecoded (Ok bytes.now) (class_view c)) (OrMemory (Ok bytes.now)) }
+/// The class file of one of these versions that bytes are, as [`decode_under`] answers it.
+fn decoded<'a>(
+    alloc: Global,
+    versions: Versions,
+    bytes: &'a [u8],
+) -> Result<ClassFile<'a>, FileFault>
+    ensures { let read = Ok (record { bytes = bytes.now; versions = versions }) in
+        MatchResult result (λ c. IsDecoded read (class_view c)) (OrMemory read) }
 {
-    match decode(alloc, bytes) {
+    match decode_under(alloc, versions, bytes) {
         Ok(class) => Ok(class),
         Err(ReadFault::OutOfMemory) => Err(FileFault::OutOfMemory),
         Err(fault) => Err(FileFault::NoClass(fault)),
@@ -52,7 +59,7 @@ pub fn class_in<'a>(alloc: Global, read: FileRead<'a>) -> Result<ClassFile<'a>, 
     ensures { MatchResult result (λ c. IsDecoded (read_of read.entry) (class_view c)) (OrMemory (read_of read.entry)) }
 {
     match read {
-        FileRead::Bytes(bytes) => decoded(alloc, bytes),
+        FileRead::Bytes { bytes, versions } => decoded(alloc, versions, bytes),
         FileRead::Unread(fault) => Err(FileFault::Unread(fault)),
     }
 }
@@ -69,7 +76,7 @@ pub fn formed<'c, 'a>(alloc: Global, class: &'c ClassFile<'a>) -> Result<Formed<
 }
 
 /// The class file in a file, which is well formed; or why there is none, by the first of these: the file could not be
-/// read; [`decode`] refuses it (2, 3, 7, 10 to 14, 16); [`form_check`] refuses it (20 to 30). 1 where memory ran out.
+/// read; [`decode_under`] refuses it (2, 3, 7, 10 to 14, 16); [`form_check`] refuses it (20 to 30). 1 where memory ran out.
 pub fn class_file<'a>(alloc: Global, read: FileRead<'a>) -> Result<ClassFile<'a>, FileFault>
     ensures { MatchResult result (λ c. IsFormed (read_of read.entry) (class_view c)) (OrMemory (read_of read.entry)) }
 {

@@ -123,7 +123,7 @@ fn explain_formed<'a, S: BuildHasher + Drop>(
 /// and the known ones. A file that could not be read is refused like one that is not a class.
 ///
 /// The first of these refusals that holds is returned: the class is refused by its reading, by
-/// [`decode`](classfile::decode) or by [`form_check`](classfile::form_check); one of the known files is refused in this
+/// [`decode_under`](classfile::decode_under) or by [`form_check`](classfile::form_check); one of the known files is refused in this
 /// way, the first that is; [`Rows::new`] refuses their summaries, of which the class's own is the first (40 to 46); the
 /// superclass of the class is final (81). 1 where memory ran out.
 pub fn verify_among<'a, S: BuildHasher + Drop>(

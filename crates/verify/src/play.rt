@@ -149,7 +149,7 @@ fn judge<'a, C: Classes>(
 {
     let classes = numbers.classes();
     let summary = summary_of(alloc, formed)?;
-    if !has_summary(&summary, classes) {
+    if !has_summary(alloc, &summary, classes)? {
         let rule = PlayRule::NotInHierarchy;
         return Err(PlayStop::Broken { class, rule });
     }

@@ -15,7 +15,7 @@ use crate::listing::has_summary;
 use crate::method::verify_listed;
 use crate::pass::ClassTypes;
 use crate::verdict::{Verdict, VerifyFault};
-use classfile::{FormFault, FormRule, Formed, Place, Profile, decode, form_check};
+use classfile::{FormFault, FormRule, Formed, Place, Profile, decode_under, form_check};
 use hierarchy::{Classes, summary_of};
 use layout::ReadFault;
 use method_frames::MethodFrames;
@@ -138,7 +138,7 @@ pub fn verify_by_numbers<'a, C: Classes>(
 {
     let classes = numbers.classes();
     let summary = summary_of(alloc, formed)?;
-    if !has_summary(&summary, classes) {
+    if !has_summary(alloc, &summary, classes)? {
         return Err(ClassFault::NotInHierarchy);
     }
     if has_final_super(&summary, classes) {
@@ -166,7 +166,7 @@ pub fn verify_methods<'a, C: Classes>(
 }
 
 /// The verdicts on the methods of the class in these bytes, in a hierarchy (JVMS 4.10.1). The first of these refusals
-/// that holds is returned: that of [`decode`], that of [`form_check`], 80, or 81; or 1, where memory ran out.
+/// that holds is returned: that of [`classfile::decode`], that of [`form_check`], 80, or 81; or 1, where memory ran out.
 pub fn verify_class<'a, C: Classes>(
     alloc: Global,
     bytes: &'a [u8],
@@ -186,7 +186,7 @@ pub fn verify_class_under<'a, C: Classes>(
 ) -> Result<Report<'a>, ClassFault>
     ensures { ReportsBytes profile (C.content classes.now) bytes.now result }
 {
-    let class = match decode(alloc, bytes) {
+    let class = match decode_under(alloc, profile.judged_versions(), bytes) {
         Ok(class) => class,
         Err(ReadFault::OutOfMemory) => return Err(ClassFault::OutOfMemory),
         Err(fault) => return Err(ClassFault::NoClass(fault)),

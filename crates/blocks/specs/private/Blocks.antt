@@ -1,5 +1,5 @@
 -- Blocks of 16 numbers.
-use Rattle.std.specs.Prelude.{◌≡◌, ◌≢◌, ℕ, ◌≤◌, ◌<◌, ◌*◌, ◌/◌, ◌%◌, ◌^◌, true, false, List, slice_index}
+use Rattle.std.specs.Prelude.{◌≡◌, ◌≢◌, ℕ, ◌≤◌, ◌<◌, ◌*◌, ◌/◌, ◌%◌, ◌^◌, ◌⊎◌, true, false, List, slice_index}
 use Rattle.blocks.specs.Rows.{is_decided}
 
 -- the place of a slot in the nodes of a level on its way down
@@ -15,6 +15,14 @@ pub record IsFirstLane (a b : List ℕ) (from lane : ℕ) : Type 0 where
   pub few : lane ≤ 16
   pub ahead : from ≤ lane
   pub decided : AreDecided a b from lane
+  pub stop : lane < 16 → is_decided (slice_index a lane) (slice_index b lane) ≡ false
+
+-- the first lane from one on that is not decided and does not hold the number of a third block, or 16
+pub record IsFirstNewLane (a b fitting : List ℕ) (from lane : ℕ) : Type 0 where
+  pub few : lane ≤ 16
+  pub ahead : from ≤ lane
+  pub settled : (k : ℕ) → from ≤ k → k < lane
+      → (is_decided (slice_index a k) (slice_index b k) ≡ true) ⊎ (slice_index a k ≡ slice_index fitting k)
   pub stop : lane < 16 → is_decided (slice_index a lane) (slice_index b lane) ≡ false
 
 -- the numbers of two blocks are equal from one lane up to another

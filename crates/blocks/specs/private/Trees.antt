@@ -147,10 +147,26 @@ pub record NotesOnly (ns ms : List Node) (level id wanted : ℕ) : Type 0 where
   pub levels : (i : ℕ) → level_of ms i ≡ level_of ns i
   pub seen : (i : ℕ) → i < length ns → ((node_at ms i).seen ≡ (node_at ns i).seen) ⊎ IsPart ns ms level id wanted i
 
--- and that one is said to fit the other, unless they are one node
+-- a node holds what another does
+pub record IsCopyOf (ns : List Node) (copy wanted : ℕ) : Type 0 where
+  pub inside : copy < length ns
+  pub alike : level_of ns copy ≡ level_of ns wanted
+  pub same : (k : ℕ) → k < 16 → below ns copy k ≡ below ns wanted k
+
+-- a node was said to fit a copy of another
+pub record IsRemembered (ns : List Node) (id wanted : ℕ) : Type 0 where
+  pub copy : ℕ
+  pub is : IsCopyOf ns copy wanted
+  pub seen : (node_at ns copy).seen ≡ Some id
+
+-- a node is another, or was said to fit it or a copy of it
+abbrev pub IsKnownToFit : List Node → ℕ → ℕ → Type 0
+IsKnownToFit ns id wanted = (id ≡ wanted) ⊎ ((node_at ns wanted).seen ≡ Some id) ⊎ IsRemembered ns id wanted
+
+-- and it is known that one was said to fit the other
 pub record IsNoted (ns ms : List Node) (level id wanted : ℕ) : Type 0 where
   pub only : NotesOnly ns ms level id wanted
-  pub done : (id ≡ wanted) ⊎ ((node_at ms wanted).seen ≡ Some id)
+  pub done : IsKnownToFit ms id wanted
 
 -- ---- what is written
 

@@ -13,12 +13,14 @@ use Rattle.pool.specs.Entries.{Entry, pool_pieces}
 use Rattle.pool.specs.EntryLaws.{writes_pool}
 use Rattle.classfile.specs.declared.location.Location.{Location}
 use Rattle.classfile.specs.declared.location.Location.TheVariants as location
+use Rattle.classfile.specs.declared.versions.Versions.{Versions}
+use Rattle.classfile.specs.Versions.{is_version}
 use Rattle.classfile.specs.Locations.{is_code, is_stack_map, is_record}
 use Rattle.classfile.specs.Layouts.{AttributeLayout, has_layout, layout_at}
 use Rattle.classfile.specs.Numbers.{Numbers, is_laid_out}
 use Rattle.classfile.specs.private.NumbersLaws.{laid_out_parts, laid_out_as_it_is}
 use Rattle.classfile.specs.Values.{AttributeOf, of_parts, of_numbers, raw, name_of, Handler, Nested, CodeBody, Attribute, Member, Component, ClassAttribute, Class}
-use Rattle.classfile.specs.ClassFile.{attribute_info, Sizes, kept, handler, nested, sizes, handlers, nested_attributes, code, attribute, attributes, three, member, members, two, component, components, class_attribute, class_attributes, is_version, version, interfaces, class}
+use Rattle.classfile.specs.ClassFile.{attribute_info, Sizes, kept, handler, nested, sizes, handlers, nested_attributes, code, attribute, attributes, three, member, members, two, component, components, class_attribute, class_attributes, version, interfaces, class}
 
 -- ---- what each part is written as
 
@@ -78,8 +80,9 @@ class_attribute_pieces pool place =
     headed_pieces (is_record pool place) (layout_at pool place) (counted (component_pieces pool))
 
 -- the magic number, the minor and the major version
-abbrev pub version_pieces : ℕ × ℕ → List Piece
-version_pieces v = field 4 0xCAFEBABE ++ (field 2 v.0 ++ marked (is_version v.0 v.1) (field 2 v.1))
+abbrev pub version_pieces : Versions → ℕ × ℕ → List Piece
+version_pieces versions v =
+    field 4 0xCAFEBABE ++ (field 2 v.0 ++ marked (is_version versions v.0 v.1) (field 2 v.1))
 
 -- the fields, the methods and the attributes of a class, where this is its pool
 abbrev pub tables_pieces : List Entry → Class → List Piece
@@ -93,12 +96,12 @@ behind_pool_pieces pool c =
     three_pieces (c.access_flags, c.this_class, c.super_class)
     ++ (counted (field 2) c.interfaces ++ tables_pieces pool c)
 
-abbrev pub pieces_with : List Entry → Class → List Piece
-pieces_with pool c = version_pieces (c.minor_version, c.major_version)
+abbrev pub pieces_with : Versions → List Entry → Class → List Piece
+pieces_with versions pool c = version_pieces versions (c.minor_version, c.major_version)
     ++ (pool_pieces pool ++ behind_pool_pieces pool c)
 
-unfoldable pub class_pieces : Class → List Piece
-class_pieces c = pieces_with c.constant_pool c
+unfoldable pub class_pieces : Versions → Class → List Piece
+class_pieces versions c = pieces_with versions c.constant_pool c
 
 -- ---- the layouts spell exactly these
 
@@ -345,24 +348,24 @@ marked_version major true h = (refl, h)
 marked_version major false h = absurd h
 
 -- the two numbers after the magic one
-made_numbers : Made {A = ℕ × ℕ}
-    (andthen (number 2) (λ minor. andthen (number 2) (λ major. by_version (is_version minor major) minor major)))
-    (λ v. v) (λ v. field 2 v.0 ++ marked (is_version v.0 v.1) (field 2 v.1))
-made_numbers = made_then _ (made_number 2 number_2) (λ minor. majors minor)
+made_numbers : (versions : Versions) → Made {A = ℕ × ℕ}
+    (andthen (number 2) (λ minor. andthen (number 2) (λ major. by_version (is_version versions minor major) minor major)))
+    (λ v. v) (λ v. field 2 v.0 ++ marked (is_version versions v.0 v.1) (field 2 v.1))
+made_numbers versions = made_then _ (made_number 2 number_2) (λ minor. majors minor)
   where
-    majors : (minor : ℕ) → Made (andthen (number 2) (λ major. by_version (is_version minor major) minor major))
-        (λ major. (minor, major)) (λ major. marked (is_version minor major) (field 2 major))
+    majors : (minor : ℕ) → Made (andthen (number 2) (λ major. by_version (is_version versions minor major) minor major))
+        (λ major. (minor, major)) (λ major. marked (is_version versions minor major) (field 2 major))
     majors minor = record { has = has; only = only }
       where
         next_part : ℕ → Format (ℕ × ℕ)
-        next_part major = by_version (is_version minor major) minor major
+        next_part major = by_version (is_version versions minor major) minor major
 
-        has : (major : ℕ) → ArePlain (marked (is_version minor major) (field 2 major))
-            → Spells (andthen (number 2) next_part) (text (marked (is_version minor major) (field 2 major)))
+        has : (major : ℕ) → ArePlain (marked (is_version versions minor major) (field 2 major))
+            → Spells (andthen (number 2) next_part) (text (marked (is_version versions minor major) (field 2 major)))
             (minor, major)
         has major h =
-            let m = marked_version major (is_version minor major) h in
-            let same : field 2 major ≡ marked (is_version minor major) (field 2 major) =
+            let m = marked_version major (is_version versions minor major) h in
+            let same : field 2 major ≡ marked (is_version versions minor major) (field 2 major) =
             ap (λ (b : Bool). marked b (field 2 major)) (sym m.0) in
             let there : Spells (next_part major) [] (minor, major) =
             subst (λ (b : Bool). Spells (by_version b minor major) [] (minor, major)) (sym m.0) (refl, refl) in
@@ -377,14 +380,14 @@ made_numbers = made_then _ (made_number 2 number_2) (λ minor. majors minor)
         behind major false bytes v s = absurd s
 
         only : (v : ℕ × ℕ) (bytes : List ℕ) → AreBytes bytes → Spells (andthen (number 2) next_part) bytes v
-            → (major : ℕ) × ((minor, major) ≡ v) × (bytes ≡ text (marked (is_version minor major) (field 2 major)))
-            × ArePlain (marked (is_version minor major) (field 2 major))
+            → (major : ℕ) × ((minor, major) ≡ v) × (bytes ≡ text (marked (is_version versions minor major) (field 2 major)))
+            × ArePlain (marked (is_version versions minor major) (field 2 major))
         only v bytes fit s =
             let i = andthen_parts (number 2) next_part bytes v s in
             let bs = AreBytes-parts i.0 i.1 (subst AreBytes i.3 fit) in
             let x = (made_number 2 number_2).only i.2 i.0 bs.0 i.4 in
-            let y = behind i.2 (is_version minor i.2) i.1 v i.5 in
-            let same : field 2 i.2 ≡ marked (is_version minor i.2) (field 2 i.2) =
+            let y = behind i.2 (is_version versions minor i.2) i.1 v i.5 in
+            let same : field 2 i.2 ≡ marked (is_version versions minor i.2) (field 2 i.2) =
             ap (λ (b : Bool). marked b (field 2 i.2)) (sym y.0) in (
               i.2,
               y.2,
@@ -393,44 +396,44 @@ made_numbers = made_then _ (made_number 2 number_2) (λ minor. majors minor)
               subst ArePlain same (subst (λ (k : ℕ). ArePlain (field 2 k)) x.1 x.3),
             )
 
-abbrev two_numbers : Format (ℕ × ℕ)
-two_numbers = andthen (number 2)
-    (λ minor. andthen (number 2) (λ major. by_version (is_version minor major) minor major))
+abbrev two_numbers : Versions → Format (ℕ × ℕ)
+two_numbers versions = andthen (number 2)
+    (λ minor. andthen (number 2) (λ major. by_version (is_version versions minor major) minor major))
 
-abbrev by_magic : Bool → Format (ℕ × ℕ)
-by_magic b = cond b two_numbers (refuse (λ at. BadMagic))
+abbrev by_magic : Versions → Bool → Format (ℕ × ℕ)
+by_magic versions b = cond b (two_numbers versions) (refuse (λ at. BadMagic))
 
-pub writes_version : Writes version version_pieces
+pub writes_version : (versions : Versions) → Writes (version versions) (version_pieces versions)
 unfolding version
-writes_version = record { has = has; only = only }
+writes_version versions = record { has = has; only = only }
   where
     next_part : ℕ → Format (ℕ × ℕ)
-    next_part magic = by_magic (nat_eq magic 0xCAFEBABE)
+    next_part magic = by_magic versions (nat_eq magic 0xCAFEBABE)
 
     rest_of : ℕ × ℕ → List Piece
-    rest_of v = field 2 v.0 ++ marked (is_version v.0 v.1) (field 2 v.1)
+    rest_of v = field 2 v.0 ++ marked (is_version versions v.0 v.1) (field 2 v.1)
 
-    has : (v : ℕ × ℕ) → ArePlain (version_pieces v) → Spells (andthen (number 4) next_part) (text (version_pieces v)) v
+    has : (v : ℕ × ℕ) → ArePlain (version_pieces versions v) → Spells (andthen (number 4) next_part) (text (version_pieces versions v)) v
     has v h =
         let p = plain_parts (field 4 0xCAFEBABE) (rest_of v) h in
         subst (λ (t : List ℕ). Spells (andthen (number 4) next_part) t v)
         (sym (text_append (field 4 0xCAFEBABE) (rest_of v)))
         (andthen_spelled (number 4) next_part (text (field 4 0xCAFEBABE)) (text (rest_of v)) 0xCAFEBABE v
-        ((made_number 4 number_4).has 0xCAFEBABE p.0) (made_numbers.has v p.1))
+        ((made_number 4 number_4).has 0xCAFEBABE p.0) ((made_numbers versions).has v p.1))
 
     behind : (magic : ℕ) (b : Bool) (bytes : List ℕ) (v : ℕ × ℕ) → nat_eq magic 0xCAFEBABE ≡ b
-        → Spells (by_magic b) bytes v → (magic ≡ 0xCAFEBABE) × Spells two_numbers bytes v
+        → Spells (by_magic versions b) bytes v → (magic ≡ 0xCAFEBABE) × Spells (two_numbers versions) bytes v
     behind magic true bytes v e s = (eqb-true _ _ e, s)
     behind magic false bytes v e s = absurd s
 
     only : (v : ℕ × ℕ) (bytes : List ℕ) → AreBytes bytes → Spells (andthen (number 4) next_part) bytes v → (x : ℕ × ℕ)
-        × (x ≡ v) × (bytes ≡ text (version_pieces x)) × ArePlain (version_pieces x)
+        × (x ≡ v) × (bytes ≡ text (version_pieces versions x)) × ArePlain (version_pieces versions x)
     only v bytes fit s =
         let i = andthen_parts (number 4) next_part bytes v s in
         let bs = AreBytes-parts i.0 i.1 (subst AreBytes i.3 fit) in
         let x = (made_number 4 number_4).only i.2 i.0 bs.0 i.4 in
         let y = behind i.2 (nat_eq i.2 0xCAFEBABE) i.1 v refl i.5 in
-        let z = made_numbers.only v i.1 bs.1 y.1 in
+        let z = (made_numbers versions).only v i.1 bs.1 y.1 in
         let magic = x.1 ∙ y.0 in (
           z.0,
           z.1,
@@ -440,9 +443,9 @@ writes_version = record { has = has; only = only }
           plain_append (field 4 0xCAFEBABE) (rest_of z.0) (subst (λ (k : ℕ). ArePlain (field 4 k)) magic x.3) z.3,
         )
 
-pub writes_class : Writes class class_pieces
+pub writes_class : (versions : Versions) → Writes (class versions) (class_pieces versions)
 unfolding class class_pieces
-writes_class = made_whole {A = (ℕ × ℕ)
+writes_class versions = made_whole {A = (ℕ × ℕ)
     × (List Entry × ((ℕ × ℕ × ℕ) × (List ℕ × (List Member × (List Member × List ClassAttribute)))))}
     (λ c. (
       (c.minor_version, c.major_version),
@@ -454,7 +457,7 @@ writes_class = made_whole {A = (ℕ × ℕ)
         ),
       ),
     )) (λ c. refl) (λ a. refl)
-    (made_then _ writes_version (λ v. made_then _ writes_pool
+    (made_then _ (writes_version versions) (λ v. made_then _ writes_pool
     (λ pool. made_then _ writes_three (λ head. made_then _ writes_interfaces (λ i.
     made_then _ (writes_members pool location.Field)
     (λ f. made_then _ (writes_members pool location.Method)

@@ -40,6 +40,10 @@ abbrev pub first_declared : List ClassFact → MemberReference → Option Declar
 first_declared [] r = None
 first_declared (c ∷ cs) r = or_above c (declared_by c r) (first_declared cs r)
 
+-- numbers of texts
+abbrev pub Numbers : Type 0
+Numbers = BTreeMap (Bor (List ℕ)) ℕ
+
 -- the number that a map has for a text
 abbrev pub number_of : BTreeMap (Bor (List ℕ)) ℕ → List ℕ → Option ℕ
 number_of numbers text = get_by (λ k. slice_cmp nat_cmp text k.now) numbers

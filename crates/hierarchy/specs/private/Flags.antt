@@ -1,9 +1,10 @@
 -- The members that references ask for, as they are kept: numbers of their texts, the spot from which a reference looks
 -- upward, and what each class above declares there. Words of the code's own steps.
-use Rattle.std.specs.Prelude.{◌≡◌, ℕ, ◌+◌, ◌-◌, ◌<◌, zero, suc, Bool, false, ◌&&◌, List, [], ◌∷◌, ◌++◌, length, slice_get, Option, Some, None, option_map}
+use Rattle.std.specs.Prelude.{◌≡◌, ℕ, ◌+◌, ◌-◌, ◌<◌, zero, suc, Bool, false, ◌&&◌, List, [], ◌∷◌, ◌++◌, length, slice_get, Option, Some, None, option_map, if◌then◌else◌}
 use Rattle.std.specs.BTreeMap.{BTreeMap, btree_map_len, get}
 use Rattle.std.specs.Borrow.{Bor}
 use Rattle.std.specs.List.{AllZip}
+use Rattle.std.specs.Str.{bytes_eq}
 use Rattle.std.specs.Option.{option_and_then, option_map_or, unwrap_or}
 use Rattle.std.specs.declared.cmp.Ordering.{Ordering}
 use Rattle.hierarchy.specs.declared.spot.Spot.{Spot}
@@ -38,6 +39,10 @@ pub record IsMember (numbers : BTreeMap (Bor (List ℕ)) ℕ) (r : MemberReferen
   pub name : number_of numbers r.name ≡ Some s.name
   pub descriptor : number_of numbers r.descriptor ≡ Some s.descriptor
   pub kind : s.kind ≡ r.kind
+
+-- the place of the class of this name, if it is not the class itself
+abbrev pub place_above : BTreeMap (Bor (List ℕ)) ℕ → List ℕ → List ℕ → Option ℕ
+place_above places class name = if bytes_eq name class then None else number_of places name
 
 -- where a reference of a class begins to look upward: at the class that it asks, if that is one above
 pub data IsStart (places numbers : BTreeMap (Bor (List ℕ)) ℕ) (class : List ℕ) (r : MemberReference) : Option Spot

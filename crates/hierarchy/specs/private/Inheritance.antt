@@ -10,13 +10,14 @@ use Rattle.hierarchy.specs.declared.member_numbers.MemberNumbers.{MemberNumbers}
 use Rattle.hierarchy.specs.declared.summary.Kind.{Kind}
 use Rattle.hierarchy.specs.declared.versions.Versions.{Versions}
 use Rattle.hierarchy.specs.private.Above.{number_of}
-use Rattle.hierarchy.specs.private.Ancestry.{IsAncestry, facts_at}
+use Rattle.hierarchy.specs.private.Ancestry.{IsAncestry, facts_at, place_among}
 use Rattle.hierarchy.specs.Class.{MemberFact, ClassFact, IsSubclass}
 use Rattle.hierarchy.specs.private.Flags.{AreNumbers}
 use Rattle.hierarchy.specs.private.MemberNumbers.{AreMemberNumbers, member_number}
-use Rattle.hierarchy.specs.Nearest.{MemberReference, Declaration, IsNearest, is_named, package_of}
+use Rattle.hierarchy.specs.Nearest.{MemberReference, Declaration, IsNearest, is_guarded, is_named, package_of}
 use Rattle.hierarchy.specs.Rules.{IsHierarchy}
-use Rattle.hierarchy.specs.private.Versions.{AreVersions, IsVersion, value_at}
+use Rattle.hierarchy.specs.declared.versions.Put.{Put}
+use Rattle.hierarchy.specs.private.Versions.{AreVersions, IsVersion, put_in, value_at}
 
 -- the number of a member that a reference asks for
 abbrev pub asked_number : MemberNumbers → MemberReference → Option ℕ
@@ -48,6 +49,11 @@ pub record KeepVersions (old new : Versions) : Type 0 where
 abbrev pub declared_value : ℕ → Option MemberFact → ℕ → ℕ
 declared_value own None v = v
 declared_value own (Some m) v = if m.is_protected then own else 0
+
+-- these values, put one after the other, are those of these members
+abbrev pub AreValues : MemberNumbers → List MemberFact → ℕ → List Put → Type 0
+AreValues numbers ms own puts = (r : MemberReference) (k v : ℕ) → asked_number numbers r ≡ Some k
+    → put_in puts k v ≡ declared_value own (find (is_named r) ms) v
 
 -- a version has the values of another, with those of these members in their place
 pub record Declares (numbers : MemberNumbers) (old new : Versions) (ms : List MemberFact)
@@ -121,3 +127,14 @@ pub record IsInheritance (classes : List ClassFact) (h : Inheritance) : Type 0 w
   pub inherit : InheritSoFar classes
       (facts_at h.ancestry.classes.items) h.numbers h.table.versions h.table.packages h.table.of.items
   pub as_many : length h.table.of.items ≡ length h.ancestry.classes.items
+
+-- where the class at a place looks for members of the class of this name: nowhere, if none of these is guarded, or at
+-- the place of that class, which stands above it
+pub data LooksAt (classes : List ClassFact) (h : Inheritance) (class : ℕ) (c : ClassFact) (name : List ℕ) : Option ℕ
+    → Type 0 where
+  nowhere : ((r : MemberReference) → r.class ≡ name → is_guarded classes c.name r ≡ false)
+      → LooksAt classes h class c name None
+  above : {place : ℕ} → place_among classes h.ancestry.places name ≡ Some place → (place ≡ class → ⊥)
+      → ((d : ClassFact) → slice_get (facts_at h.ancestry.classes.items) place ≡ Some d
+      → IsSubclass classes c.name d.name)
+      → LooksAt classes h class c name (Some place)

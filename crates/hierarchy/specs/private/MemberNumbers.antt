@@ -5,11 +5,12 @@ use Rattle.std.specs.Borrow.{Bor}
 use Rattle.std.specs.Option.{option_and_then}
 use Rattle.std.specs.declared.cmp.Ordering.{Ordering}
 use Rattle.hierarchy.specs.declared.member_key.MemberKey.{MemberKey}
+use Rattle.hierarchy.specs.declared.member_numbers.MemberLookups.{MemberLookups}
 use Rattle.hierarchy.specs.declared.member_numbers.MemberNumbers.{MemberNumbers}
 use Rattle.hierarchy.specs.declared.summary.Kind.{Kind}
 use Rattle.hierarchy.specs.contracts.member_key.MemberKeyOrd.TheImpl as key_ord
 use Rattle.hierarchy.specs.private.Above.{number_of}
-use Rattle.hierarchy.specs.Class.{MemberFact}
+use Rattle.hierarchy.specs.private.TextNumbers.{AreFound}
 use Rattle.hierarchy.specs.private.Flags.{AreNumbers}
 
 -- the order in which members are kept
@@ -49,9 +50,14 @@ pub record AreMemberNumbers (numbers : MemberNumbers) : Type 0 where
       × (number_of numbers.texts descriptor ≡ Some key.descriptor)
 
 -- the member has a number, all that had one keep it, and no other gets one
-pub record AddsMember (old new : MemberNumbers) (m : MemberFact) : Type 0 where
+pub record AddsMember (old new : MemberNumbers) (kind : Kind) (name descriptor : List ℕ) : Type 0 where
   pub good : AreMemberNumbers new
   pub kept : (k : Kind) (a d : List ℕ) (i : ℕ) → member_number old k a d ≡ Some i → member_number new k a d ≡ Some i
-  pub here : IsSome (member_number new m.kind m.name m.descriptor)
+  pub here : IsSome (member_number new kind name descriptor)
   pub only : (k : Kind) (a d : List ℕ) (i : ℕ) → member_number new k a d ≡ Some i → (member_number old k a d ≡ Some i)
-      ⊎ ((k ≡ m.kind) × (a ≡ m.name) × (d ≡ m.descriptor))
+      ⊎ ((k ≡ kind) × (a ≡ name) × (d ≡ descriptor))
+
+-- members of these numbers are asked for by these texts, and what was found of each text is its number
+pub record AreLookups (numbers : MemberNumbers) (texts : List (Bor (List ℕ))) (l : MemberLookups) : Type 0 where
+  pub among : l.numbers.now ≡ numbers
+  pub found : AreFound numbers.texts texts l.texts

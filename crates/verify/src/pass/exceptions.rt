@@ -1,5 +1,5 @@
 //! The exception table of a method, which is judged before the code (JVMS 4.7.3, 4.10.1.6), by the numbers of types.
-ghost use Rattle.std.specs.Prelude.{◌≡◌, ◌<◌, pos, length, map, option_map, IfOk, IfSome};
+ghost use Rattle.std.specs.Prelude.{◌≡◌, ◌<◌, ℕ, pos, length, slice_index, map, option_map, IfOk};
 ghost use Rattle.names.specs.StandardNames.{throwable_name};
 ghost use Rattle.classfile.specs.Methods.{ExceptionEntry, Method, caught_type, exception_entries};
 ghost use Rattle.classfile.specs.Views.{handler_view};
@@ -163,36 +163,45 @@ pub fn judge_entry<'n, C: Classes>(
     Ok(frame)
 }
 
-/// A frame that stands for a declared one, since it has the same locals: one that stands for the frame before it, where
-/// that has them.
+/// For a table of at most so many entries a frame is compared with the one in front of it alone.
+const FEW_ENTRIES: usize = 64;
+
+/// With so many frames in front of it a frame is compared where the table is longer, so that frames of a few kinds in
+/// turn have as few leads.
+const MOST_NEAR: usize = 8;
+
+/// A frame that stands for a declared one, since it has the same locals: one that stands for one of so many frames in
+/// front of it, where one of them has these locals.
 fn lead_of<C: Classes>(
-    before: Option<usize>,
+    leads: &[usize],
+    near: usize,
     frame: usize,
     frames: &MethodFrames<'_, '_, '_, C>,
 ) -> usize
-    requires before { IfSome before (λ lead. lead < length frames.now.declared) }
+    requires leads { (k : ℕ) → k < length leads.now → slice_index leads.now k < length frames.now.declared }
     requires frame { frame < length frames.now.declared }
     ensures { IsLead frames.now.declared result frame }
 {
-    let Some(lead) = before else {
-        return frame;
-    };
-    match frames.first_unequal(frame, lead) {
-        Some(_) => frame,
-        None => lead,
+    for i in leads.len().saturating_sub(near)..leads.len() {
+        let lead = leads[i];
+        if frames.first_unequal(frame, lead).is_none() {
+            return lead;
+        }
     }
+    frame
 }
 
-/// For each declared frame one that stands for it.
+/// For each declared frame one that stands for it, by the locals of so many frames in front of it.
 fn leads_of<C: Classes>(
     alloc: Global,
+    near: usize,
     frames: &MethodFrames<'_, '_, '_, C>,
 ) -> Result<Vec<usize>, AllocError>
     ensures { IfOk result (λ v. AreLeads frames.now.declared v.items) }
 {
     let mut leads: Vec<usize> = Vec::with_capacity(alloc, frames.count())?;
     for frame in 0..frames.count() {
-        let lead = lead_of(leads.last().copied(), frame, frames);
+        let lead = lead_of(&leads, near, frame, frames);
         leads.push(lead)?;
     }
     Ok(leads)
@@ -264,6 +273,11 @@ pub fn handlers_of<'n, C: Classes>(
     if entries.is_empty() {
         return Ok(Vec::new(alloc));
     }
-    let leads = leads_of(alloc, frames)?;
+    let near = if entries.len() > FEW_ENTRIES {
+        MOST_NEAR
+    } else {
+        1
+    };
+    let leads = leads_of(alloc, near, frames)?;
     judge_entries(alloc, entries, &leads, body, frames)
 }

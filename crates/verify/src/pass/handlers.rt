@@ -380,15 +380,21 @@ impl Handlers {
     }
 
     /// Keeps the locals of the running frame, with which the handlers of these entries were compared.
-    fn keep<C: Classes>(&mut self, at: u16, frames: &mut MethodFrames<'_, '_, '_, C>)
-        ensures rest { frames.new ≡ record frames.old { kept = frames.old.running.locals } }
+    fn keep<C: Classes>(
+        &mut self,
+        at: u16,
+        frames: &mut MethodFrames<'_, '_, '_, C>,
+    ) -> Result<(), AllocError>
+        ensures rest { frames.new ≡ record frames.old { kept = frames.new.kept } }
+        ensures kept { OnOk result (frames.new.kept ≡ frames.old.running.locals) }
         ensures ahead { AreAhead at self.old → AreAhead at self.new }
         ensures followed { (es : List ExceptionEntry) → Follows frames.old es at self.old
-            → AreAllTaken frames.old at self.old → Follows frames.new es at self.new }
-        ensures flag { self.new.flag ≡ frames.new.running.flag }
+            → AreAllTaken frames.old at self.old → OnOk result (Follows frames.new es at self.new) }
+        ensures flag { OnOk result (self.new.flag ≡ frames.new.running.flag) }
     {
-        frames.keep_locals();
+        frames.keep_locals()?;
         self.flag = frames.flag();
+        Ok(())
     }
 
     /// Whether it is remembered that a frame came to the handler of an entry with this frame and this type.
@@ -497,7 +503,7 @@ impl Handlers {
         if !self.are_taken(at, frames)? {
             return Ok(false);
         }
-        self.keep(at, frames);
+        self.keep(at, frames)?;
         self.compare(at, frames)
     }
 

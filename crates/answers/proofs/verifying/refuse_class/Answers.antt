@@ -11,13 +11,13 @@ pub returns-in-Plain : goal.returns-in-Plain
 returns-in-Plain g c =
     let held = g.W.Write.contents in
     let fault = c.args.fault in
-    subst (λ (m : Manner). Answered (λ t s. IsTold m (file_view c.args.read.now) fault (λ form. class_refusal form c.args.fault) (class_object c.args.fault) t × (s ≡ refusal_status fault)) (held c.args.out.now) (held c.explain_file.new.out) c.explain_file.result)
+    subst (λ (m : Manner). Answered (λ t s. IsTold m (file_view c.args.file) fault (λ form. class_refusal form c.args.fault) (class_object c.args.fault) t × (s ≡ refusal_status fault)) (held c.args.out.now) (held c.explain_file.new.out) c.explain_file.result)
     (sym (c.in-Explained.is ∙ ap Explained c.in-Plain.is))
-    (subst (λ (form : Form). Answered (λ t s. IsExplained (file_view c.args.read.now) fault (class_refusal form fault) t × (s ≡ refusal_status fault)) (held c.args.out.now) (held c.explain_file.new.out) c.explain_file.result) c.in-Plain.is c.explain_file.ensures)
+    (subst (λ (form : Form). Answered (λ t s. IsExplained (file_view c.args.file) fault (class_refusal form fault) t × (s ≡ refusal_status fault)) (held c.args.out.now) (held c.explain_file.new.out) c.explain_file.result) c.in-Plain.is c.explain_file.ensures)
 
 pub returns-in-Json : goal.returns-in-Json
 returns-in-Json g c =
     let held = g.W.Write.contents in
     let fault = c.args.fault in
-    subst (λ (m : Manner). Answered (λ t s. IsTold m (file_view c.args.read.now) fault (λ form. class_refusal form c.args.fault) (class_object c.args.fault) t × (s ≡ refusal_status fault)) (held c.args.out.now) (held c.explain_object.new.out) c.explain_object.result)
+    subst (λ (m : Manner). Answered (λ t s. IsTold m (file_view c.args.file) fault (λ form. class_refusal form c.args.fault) (class_object c.args.fault) t × (s ≡ refusal_status fault)) (held c.args.out.now) (held c.explain_object.new.out) c.explain_object.result)
     (sym (c.in-Explained.is ∙ ap Explained c.in-Json.is)) c.explain_object.ensures

@@ -5,4 +5,4 @@ use Rattle.classfile.proofs.ClassOutlines.{class_is_outline}
 use Rattle.classfile.proofs.laws.class_is_outline.Goals as goal
 
 pub returns : goal.returns
-returns c given class is = let within = is.within in spells_leads outline 0 given tt (class_is_outline given class is.spelled) (omega (arith, within))
+returns c versions given class is = let within = is.within in spells_leads outline 0 given tt (class_is_outline versions given class is.spelled) (omega (arith, within))

@@ -1,8 +1,14 @@
-use Rattle.std.proofs.Common.{◌≡◌, ◌++◌, map, take}
+use Rattle.std.proofs.Common.{◌++◌, List, map, take}
 use Rattle.classfile.specs.Views.{member_view}
+use Rattle.hierarchy.specs.Class.{MemberFact}
 use Rattle.hierarchy.specs.ClassSummary.{member_summaries}
-use Rattle.hierarchy.specs.Summary.{member_of}
+use Rattle.hierarchy.specs.private.Summarising.{AreSummarised}
+use Rattle.hierarchy.specs.Texts.{AreTexts, kept_texts}
 use Rattle.hierarchy.proofs.class_summary.summarise.Given as goal
 
 abbrev pub invariant-loop-member : goal.invariant-loop-member
-invariant-loop-member l = map member_of l.out.items ≡ map member_of l.initial.out.items ++ member_summaries l.pool l.kind (map member_view (take l.member-index l.members))
+invariant-loop-member l = record {
+  good : AreTexts l.pool l.texts;
+  summaries : (facts : List MemberFact) → AreSummarised (kept_texts l.initial.texts) l.initial.out.items facts
+      → AreSummarised (kept_texts l.texts) l.out.items (facts ++ member_summaries l.pool l.kind (map member_view (take l.member-index l.members)));
+}

@@ -1,8 +1,7 @@
 use Rattle.std.proofs.Common.{take}
 use Rattle.pool.specs.Views.{views}
-use Rattle.rules.specs.Guards.{AreKeyed, AreRead}
+use Rattle.rules.specs.Guards.{AreReadSoFar}
 use Rattle.rules.proofs.guards.read_all.Given as goal
 
 abbrev pub invariant-loop-constant : goal.invariant-loop-constant
-invariant-loop-constant l =
-    AreRead l.class (take l.constant-index (views l.constants)) l.places.items l.references.references.items × AreKeyed l.class.constant_pool l.references
+invariant-loop-constant l = AreReadSoFar l.class (take l.constant-index (views l.constants)) l.places.items l.read

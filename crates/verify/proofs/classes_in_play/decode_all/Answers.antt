@@ -6,6 +6,7 @@ use Rattle.std.proofs.lemmas.Option.{slice_get-map, slice_get-get_or}
 use Rattle.classfile.specs.Views.{class_view}
 use Rattle.classfile.proofs.Places.{take_one_more}
 use Rattle.verify.specs.declared.files.FileRead.{FileRead}
+use Rattle.classfile.specs.declared.versions.Versions.TheVariants.{Java7To17}
 use Rattle.verify.specs.declared.files.FileRead.TheVariants.{Bytes}
 use Rattle.verify.specs.Files.{read_of}
 use Rattle.verify.specs.private.TogetherSteps.{AreDecoded, views}
@@ -13,7 +14,7 @@ use Rattle.verify.proofs.FilesInPlay.{one_more_decoded, more_views, first_behind
 use Rattle.verify.proofs.classes_in_play.decode_all.Goals as goal
 
 no_read : FileRead
-no_read = Bytes record { ref_ptr = (0, 0); now = [] }
+no_read = Bytes record { ref_ptr = (0, 0); now = [] } Java7To17
 
 pub loop-i-preserved : goal.loop-i-preserved
 unfolding no_read

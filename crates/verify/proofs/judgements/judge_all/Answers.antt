@@ -4,6 +4,7 @@ use Rattle.std.specs.Option.{option_map}
 use Rattle.std.proofs.lemmas.Option.{slice_get-map, slice_get-get_or}
 use Rattle.classfile.proofs.Places.{take_one_more}
 use Rattle.verify.specs.declared.files.FileRead.{FileRead}
+use Rattle.classfile.specs.declared.versions.Versions.TheVariants.{Java7To17}
 use Rattle.verify.specs.declared.files.FileRead.TheVariants.{Bytes}
 use Rattle.verify.specs.Files.{read_of}
 use Rattle.verify.specs.Each.{AreJudged, IsJudged}
@@ -11,7 +12,7 @@ use Rattle.verify.proofs.OneMore.{one_more_judged}
 use Rattle.verify.proofs.judgements.judge_all.Goals as goal
 
 no_read : FileRead
-no_read = Bytes record { ref_ptr = (0, 0); now = [] }
+no_read = Bytes record { ref_ptr = (0, 0); now = [] } Java7To17
 
 pub loop-file-preserved : goal.loop-file-preserved
 unfolding no_read

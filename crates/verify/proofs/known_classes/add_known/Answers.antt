@@ -7,13 +7,14 @@ use Rattle.classfile.proofs.Places.{take_one_more}
 use Rattle.hierarchy.specs.ClassSummary.{summary_of}
 use Rattle.hierarchy.specs.Summary.{fact_of, facts_of}
 use Rattle.verify.specs.declared.files.FileRead.{FileRead}
+use Rattle.classfile.specs.declared.versions.Versions.TheVariants.{Java7To17}
 use Rattle.verify.specs.declared.files.FileRead.TheVariants.{Bytes}
 use Rattle.verify.specs.Files.{read_of, AreFormed}
 use Rattle.verify.proofs.Formed.{one_more_formed, earlier_formed}
 use Rattle.verify.proofs.known_classes.add_known.Goals as goal
 
 no_read : FileRead
-no_read = Bytes record { ref_ptr = (0, 0); now = [] }
+no_read = Bytes record { ref_ptr = (0, 0); now = [] } Java7To17
 
 pub loop-i-init : goal.loop-i-init
 loop-i-init c = ([], tt, sym (append-nil (facts_of c.args.summaries.now.items)))

@@ -1,72 +1,46 @@
-use Rattle.std.proofs.Common.{◌∙◌, arith, sym, subst}
-use Rattle.std.proofs.lemmas.Bool.{false≢true}
+use Rattle.std.proofs.Common.{◌≡◌, ◌<◌, ◌∙◌, [], IfSome, Some, arith, length, refl, sym, subst}
 use Rattle.hierarchy.specs.private.Ancestry.{facts_at}
-use Rattle.hierarchy.specs.private.Inheritance.{IsProtectedAt}
-use Rattle.hierarchy.specs.Summary.{reference_of}
-use Rattle.hierarchy.proofs.Lookups.{entry_at, no_length, no_place, protected_some, start_apart, start_at, start_free, start_guarded, start_itself, within}
-use Rattle.hierarchy.proofs.inheritance.Inheritance.is_guarded.Goals.{then-start-class-via-then-start-class, then-start-class-via-else-start-class+then-not-is_below}
+use Rattle.hierarchy.specs.private.Inheritance.{IsProtectedAt, LooksAt}
+use Rattle.hierarchy.specs.Summary.{asked}
+use Rattle.hierarchy.proofs.Lookups.{class_at, looks_above, looks_nowhere, protected_some, start_at, start_free, start_guarded, within}
 use Rattle.hierarchy.proofs.inheritance.Inheritance.is_guarded.Goals as goal
 
-pub returns-then-not-may_be_above : goal.returns-then-not-may_be_above
-returns-then-not-may_be_above g c a at =
-    let h = c.args.self.now in
-    let i = entry_at h.table.of.items c.args.class c.requires.there in
-    no_length (g.C.Classes.content c.args.classes.now) h c.requires.good c.args.class a at (reference_of c.args.reference.now) i.0 i.1 (sym (c.may_be_above.ensures i.0 i.1) ∙ c.if-not-may_be_above.true)
-
-pub returns-in_default : goal.returns-in_default
-returns-in_default g c a at = no_place (g.C.Classes.content c.args.classes.now) c.args.self.now c.requires.good c.args.class a at (reference_of c.args.reference.now) (sym c.place.ensures ∙ c.in_default.is)
-
-pub returns-then-start-class : goal.returns-then-start-class
-returns-then-start-class g c a at =
-    let classes = g.C.Classes.content c.args.classes.now in
-    let is = c.requires.good in
-    let h = c.args.self.now in
-    let r = reference_of c.args.reference.now in
-    let found = sym c.place.ensures ∙ c.in-Some.is in
-    elim c.then-start-class.branch [
-      | then-start-class-via-then-start-class w ↦ start_itself classes h is c.args.class a at r c.in-Some.start found w.if-start-class.true
-      | then-start-class-via-else-start-class+then-not-is_below w ↦
-          let d = start_at classes h is c.args.class a at r c.in-Some.start found in
-          start_apart classes h is c.args.class a at r c.in-Some.start found
-          (λ sub. false≢true (sym w.if-not-is_below.true ∙ (w.is_below.ensures classes a d.0 is at d.1).1 sub))
-    ]
+pub returns-in_default-clause-guarded : goal.returns-in_default-clause-guarded
+returns-in_default-clause-guarded c classes a texts name is at asks looks =
+    looks_nowhere classes c.args.self.now c.args.class a name (subst (LooksAt classes c.args.self.now c.args.class a name) c.in_default.is looks) (asked texts name c.args.member) refl
 
 pub protected_in-requires-clause-there : goal.protected_in-requires-clause-there
-protected_in-requires-clause-there g c =
-    let at = c.requires.good.ancestry.places.leads c.args.reference.now.class.now c.in-Some.start (sym c.place.ensures ∙ c.in-Some.is) in
-    within (g.C.Classes.content c.args.classes.now) c.args.self.now c.requires.good c.in-Some.start at.0 at.1
+protected_in-requires-clause-there c = subst (λ o. IfSome o (λ s. s < length c.args.self.now.table.of.items)) c.in-Some.is c.requires.start
 
 pub index-requires : goal.index-requires
-index-requires g c =
-    let classes = g.C.Classes.content c.args.classes.now in
+index-requires c =
     let h = c.args.self.now in
-    let r = reference_of c.args.reference.now in
-    let at = c.requires.good.ancestry.places.leads r.class c.in-Some.start (sym c.place.ensures ∙ c.in-Some.is) in
-    let told = subst (IsProtectedAt classes (facts_at h.ancestry.classes.items) r at.0.name) c.in-Some-protected_in.is (c.protected_in.ensures classes at.0 c.requires.good at.1) in
-    let d = protected_some classes (facts_at h.ancestry.classes.items) r at.0.name c.in-Some-protected_in.place told in
-    let lt = within classes h c.requires.good c.in-Some-protected_in.place d.0.class d.1 in
-    omega (arith, lt, h.table.of.ok)
+    let classes = c.requires.good.0 in
+    let is = c.requires.good.1 in
+    let texts = c.requires.lookups.0 in
+    let r = asked texts [] c.args.member in
+    let lt = subst (λ o. IfSome o (λ s. s < length h.table.of.items)) c.in-Some.is c.requires.start in
+    let d = class_at classes h is c.in-Some.start lt in
+    let told = subst (IsProtectedAt classes (facts_at h.ancestry.classes.items) r d.0.name) c.in-Some-protected_in.is (c.protected_in.ensures.place classes d.0 texts [] is d.1 c.requires.lookups.1) in
+    let x = protected_some classes (facts_at h.ancestry.classes.items) r d.0.name c.in-Some-protected_in.place told in
+    let below = within classes h is c.in-Some-protected_in.place x.0.class x.1 in
+    omega (arith, below, h.table.of.ok)
 
-pub returns-in-None : goal.returns-in-None
-returns-in-None g c a at =
-    let classes = g.C.Classes.content c.args.classes.now in
-    let is = c.requires.good in
+pub returns-in-None-clause-guarded : goal.returns-in-None-clause-guarded
+returns-in-None-clause-guarded c classes a texts name is at asks looks =
     let h = c.args.self.now in
-    let r = reference_of c.args.reference.now in
-    let found = sym c.place.ensures ∙ c.in-Some.is in
-    let d = start_at classes h is c.args.class a at r c.in-Some.start found in
-    start_free classes h is c.args.class a at r c.in-Some.start found
-    (subst (IsProtectedAt classes (facts_at h.ancestry.classes.items) r d.0.name) c.in-None.is (c.protected_in.ensures classes d.0 is d.1))
+    let r = asked texts name c.args.member in
+    let above = looks_above classes h c.args.class a name c.in-Some.start (subst (LooksAt classes h c.args.class a name) c.in-Some.is looks) in
+    let d = start_at classes h is c.args.class a at r c.in-Some.start above.0 in
+    start_free classes h is c.args.class a at r c.in-Some.start above.0
+    (subst (IsProtectedAt classes (facts_at h.ancestry.classes.items) r d.0.name) c.in-None.is (c.protected_in.ensures.place classes d.0 texts name is d.1 asks))
 
-pub returns-in-Some-protected_in : goal.returns-in-Some-protected_in
-returns-in-Some-protected_in g c a at =
-    let classes = g.C.Classes.content c.args.classes.now in
-    let is = c.requires.good in
+pub returns-in-Some-protected_in-clause-guarded : goal.returns-in-Some-protected_in-clause-guarded
+returns-in-Some-protected_in-clause-guarded c classes a texts name is at asks looks =
     let h = c.args.self.now in
-    let r = reference_of c.args.reference.now in
-    let found = sym c.place.ensures ∙ c.in-Some.is in
-    let d = start_at classes h is c.args.class a at r c.in-Some.start found in
-    start_guarded classes h is c.args.class a at r c.in-Some.start found c.if-start-class.false
-    ((c.is_below.ensures classes a d.0 is at d.1).0 c.if-not-is_below.false) c.in-Some-protected_in.place
-    (subst (IsProtectedAt classes (facts_at h.ancestry.classes.items) r d.0.name) c.in-Some-protected_in.is (c.protected_in.ensures classes d.0 is d.1))
+    let r = asked texts name c.args.member in
+    let above = looks_above classes h c.args.class a name c.in-Some.start (subst (LooksAt classes h c.args.class a name) c.in-Some.is looks) in
+    let d = start_at classes h is c.args.class a at r c.in-Some.start above.0 in
+    start_guarded classes h is c.args.class a at r c.in-Some.start above.0 above.1 (above.2 d.0 d.1) c.in-Some-protected_in.place
+    (subst (IsProtectedAt classes (facts_at h.ancestry.classes.items) r d.0.name) c.in-Some-protected_in.is (c.protected_in.ensures.place classes d.0 texts name is d.1 asks))
     c.index-in-Some-protected_in.result.now c.index.result.now c.requires.there c.index-in-Some-protected_in.ensures c.index.ensures

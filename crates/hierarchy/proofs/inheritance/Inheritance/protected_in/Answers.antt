@@ -1,36 +1,39 @@
 use Rattle.std.proofs.Common.{◌∙◌, ◌-◌, Some, refl, sym, subst}
 use Rattle.hierarchy.specs.private.Ancestry.{facts_at}
 use Rattle.hierarchy.specs.private.Inheritance.{IsProtectedAt}
-use Rattle.hierarchy.specs.Summary.{reference_of}
+use Rattle.hierarchy.specs.Summary.{asked}
 use Rattle.hierarchy.specs.private.Versions.{value_at}
 use Rattle.hierarchy.proofs.Lookups.{coded_none, coded_some, inherits_at, inherits_of}
 use Rattle.hierarchy.proofs.Descent.{no_number}
 use Rattle.hierarchy.proofs.inheritance.Inheritance.protected_in.Goals as goal
 
-pub returns-in_err-number : goal.returns-in_err-number
-returns-in_err-number c classes a is at =
+pub returns-in_err-number-clause-place : goal.returns-in_err-number-clause-place
+returns-in_err-number-clause-place c classes a texts name is at asks =
     let h = c.args.self.now in
-    subst (IsProtectedAt classes (facts_at h.ancestry.classes.items) (reference_of c.args.reference.now) a.name) (sym c.from_residual.ensures)
-    (no_number classes (facts_at h.ancestry.classes.items) h.ancestry refl is.ancestry h.numbers is.numbered (reference_of c.args.reference.now) (sym c.get.ensures ∙ c.in_err-number.was) c.args.class a at)
+    let told = (c.get.ensures h.numbers texts asks).1 in
+    subst (IsProtectedAt classes (facts_at h.ancestry.classes.items) (asked texts name c.args.member) a.name) (sym c.from_residual.ensures)
+    (no_number classes (facts_at h.ancestry.classes.items) h.ancestry refl is.ancestry h.numbers is.numbered (asked texts name c.args.member) (sym told ∙ c.in_err-number.was) c.args.class a at)
 
 pub get-place-requires-clause-there : goal.get-place-requires-clause-there
 get-place-requires-clause-there c =
     (inherits_at c.requires.good.0 c.args.self.now c.requires.good.1 c.args.class c.index.result.now c.requires.there c.index.ensures).2.is_members
 
-pub returns-then-place-eq0 : goal.returns-then-place-eq0
-returns-then-place-eq0 c classes a is at =
+pub returns-then-place-eq0-clause-place : goal.returns-then-place-eq0-clause-place
+returns-then-place-eq0-clause-place c classes a texts name is at asks =
     let h = c.args.self.now in
-    let r = reference_of c.args.reference.now in
+    let told = (c.get.ensures h.numbers texts asks).1 in
+    let r = asked texts name c.args.member in
     let x = inherits_of classes h is c.args.class c.index.result.now a c.requires.there c.index.ensures at in
-    coded_none classes (facts_at h.ancestry.classes.items) r a.name (value_at h.table.versions c.index.result.now.members c.in_ok-number.number) (x.members r c.in_ok-number.number (sym c.get.ensures ∙ c.in_ok-number.was))
+    coded_none classes (facts_at h.ancestry.classes.items) r a.name (value_at h.table.versions c.index.result.now.members c.in_ok-number.number) (x.members r c.in_ok-number.number (sym told ∙ c.in_ok-number.was))
     (sym c.get-place.ensures ∙ c.if-place-eq0.true)
 
-pub returns-else-place-eq0 : goal.returns-else-place-eq0
-returns-else-place-eq0 c classes a is at =
+pub returns-else-place-eq0-clause-place : goal.returns-else-place-eq0-clause-place
+returns-else-place-eq0-clause-place c classes a texts name is at asks =
     let h = c.args.self.now in
-    let r = reference_of c.args.reference.now in
+    let told = (c.get.ensures h.numbers texts asks).1 in
+    let r = asked texts name c.args.member in
     let all = facts_at h.ancestry.classes.items in
     let x = inherits_of classes h is c.args.class c.index.result.now a c.requires.there c.index.ensures at in
     subst (λ v. IsProtectedAt classes all r a.name (Some (v - 1))) (sym c.get-place.ensures)
-    (coded_some classes all r a.name (value_at h.table.versions c.index.result.now.members c.in_ok-number.number) (x.members r c.in_ok-number.number (sym c.get.ensures ∙ c.in_ok-number.was))
+    (coded_some classes all r a.name (value_at h.table.versions c.index.result.now.members c.in_ok-number.number) (x.members r c.in_ok-number.number (sym told ∙ c.in_ok-number.was))
     (λ z. c.if-place-eq0.false (c.get-place.ensures ∙ z)))

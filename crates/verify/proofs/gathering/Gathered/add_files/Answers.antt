@@ -5,6 +5,7 @@ use Rattle.std.proofs.lemmas.Option.{slice_get-map, slice_get-get_or}
 use Rattle.classfile.proofs.Places.{take_one_more}
 use Rattle.hierarchy.specs.Summary.{facts_of}
 use Rattle.verify.specs.declared.files.FileRead.{FileRead}
+use Rattle.classfile.specs.declared.versions.Versions.TheVariants.{Java7To17}
 use Rattle.verify.specs.declared.files.FileRead.TheVariants.{Bytes}
 use Rattle.verify.specs.Files.{read_of}
 use Rattle.verify.specs.Each.{AddsFiles}
@@ -12,7 +13,7 @@ use Rattle.verify.proofs.OneMore.{one_more_added}
 use Rattle.verify.proofs.gathering.Gathered.add_files.Goals as goal
 
 no_read : FileRead
-no_read = Bytes record { ref_ptr = (0, 0); now = [] }
+no_read = Bytes record { ref_ptr = (0, 0); now = [] } Java7To17
 
 pub loop-file-preserved : goal.loop-file-preserved
 unfolding no_read

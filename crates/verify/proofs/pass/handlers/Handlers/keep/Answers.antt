@@ -12,7 +12,7 @@ pub returns-clause-followed : goal.returns-clause-followed
 returns-clause-followed g c = λ es k taken.
     let x = c.args.frames.now in
     let h = c.args.self.now in
-    let kept = c.keep_locals.ensures in
+    let kept = c.in_ok-keep_locals.ensures.ok in
     let flag = c.flag-self.ensures ∙ ap (λ (z : NumberedFrames). z.running.flag) kept in
     subst (λ z. Follows z es c.args.at (with_flag h c.flag-self.result)) (sym kept)
     (subst (λ f. Follows (record x { kept = x.running.locals }) es c.args.at (with_flag h f)) (sym flag) (kept_follows x es c.args.at h k taken))

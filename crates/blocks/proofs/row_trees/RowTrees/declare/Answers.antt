@@ -1,0 +1,18 @@
+use Rattle.std.proofs.Common.{◌≡◌, length, subst, sym, arith, rules}
+use Rattle.blocks.specs.private.Arenas.{IsArena}
+use Rattle.blocks.proofs.Arenas.{declared_arena}
+use Rattle.blocks.proofs.Outcomes.{all_replaced, same_itself}
+use Rattle.blocks.proofs.row_trees.RowTrees.declare.Goals as goal
+
+pub invariant_of-self-2 : goal.invariant_of-self-2
+invariant_of-self-2 c =
+    let a = c.self.inside in
+    let within = c.self.invariant.arena.tree.within in
+    let long : length a.nodes.items ≡ c.len.result = search rules in
+    record {
+      arena =
+          subst (λ n. IsArena a.nodes.items n a.root a.kept a.count c.push.new.self.items) long
+          (subst (IsArena a.nodes.items (length a.nodes.items) a.root a.kept a.count) (sym c.in_ok-push.ensures.items)
+          (declared_arena a.nodes.items a.own a.root a.kept a.count a.declared.items c.self.invariant.arena));
+      replaced = all_replaced a.nodes.items a.nodes.items a.own c.len.result a.replacements (same_itself a.nodes.items a.own) (omega (arith, within, long)) c.self.invariant.replaced;
+    }
