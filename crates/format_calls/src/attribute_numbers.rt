@@ -8,7 +8,7 @@ use std::test::*;
 /// That of Exceptions, in methods.
 static EXCEPTIONS: AttributeLayout<'static> = AttributeLayout {
     name: "Exceptions",
-    first_major: 51,
+    first_major: 45,
     once: true,
     counted: true,
     columns: &[Column::Class],
@@ -17,7 +17,7 @@ static EXCEPTIONS: AttributeLayout<'static> = AttributeLayout {
 /// That of InnerClasses, in classes.
 static INNER_CLASSES: AttributeLayout<'static> = AttributeLayout {
     name: "InnerClasses",
-    first_major: 51,
+    first_major: 45,
     once: true,
     counted: true,
     columns: &[
@@ -40,7 +40,7 @@ static NEST_HOST: AttributeLayout<'static> = AttributeLayout {
 /// That of Deprecated, in classes, fields and methods.
 static DEPRECATED: AttributeLayout<'static> = AttributeLayout {
     name: "Deprecated",
-    first_major: 51,
+    first_major: 45,
     once: false,
     counted: false,
     columns: &[],
