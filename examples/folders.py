@@ -142,6 +142,8 @@ class Known:
 
     def find(self, name):
         """The file of the class of this name in the first place that has it, or None."""
+        if name in self.files:
+            return self.files[name]
         package, _, last = name.rpartition("/")
         places = self.packages.get(package)
         if places is None:

@@ -5,20 +5,26 @@ from class_paths import class_paths
 from judging import Verifier, lacking_in
 from judging_each import EachVerifier
 from output import escaped
+from program import call
 
 
 class Answers:
     """The answers on the classes of jars, each as text and status, by their files."""
 
-    def __init__(self, jars, folders, known, profile):
+    def __init__(self, jars, folders, known, profile, call=call):
         self.paths = class_paths(jars, [known] if known else folders)
         self.of_file = {file: (name, path) for path in self.paths for name, file in path.own.items()}
-        self.profile, self.each, self.found = profile, EachVerifier(profile.words(), known), {}
+        self.profile, self.each, self.found = profile, EachVerifier(profile.words(), known, call), {}
 
     def judge(self):
         """Has one process for each class path judge the classes."""
         for path in self.paths:
             self.found |= self.each.judge(path)
+
+    def first_call(self):
+        """The words of the first call, as it would be with all known classes that were found; and the names of these."""
+        files = self.paths[0].own.values() if self.paths else []
+        return self.each.words([*files], self.each.in_folders(self.paths[0]) if files else []), [*self.each.known.files]
 
     def judge_by_processes(self):
         """Has processes for each class judge it, on all processors."""

@@ -12,9 +12,11 @@ import zlib
 
 from folders import MOST, contents
 from output import Refused, escaped, reason
+from program import MOST_CLASSES
+from unpacking import Entries, write
 
-# The most bytes that the classes of all jars may have, and that a jar within another may have.
-MOST_CLASSES, MOST_NESTED = 1 << 32, 1 << 28
+# The most bytes that a jar within another may have.
+MOST_NESTED = 1 << 28
 # For so many bytes it is worth starting a process that unpacks them, and for so many of a jar within another; in so many, or in one class, names
 # are searched for at once.
 PART, NESTED_PART, PIECE = 1 << 19, 1 << 24, 1 << 18
@@ -107,9 +109,18 @@ class Jar(Judged):
         self.size = sum(min(it.file_size, MOST) for it in classes)
         self.refuse_size(left)
         with self.told():
-            folder = room.enter_context(tempfile.TemporaryDirectory(dir=in_memory(self.size)))
+            folder = self.folder(room, len(classes))
             work = [(it, self.add(infos[it], f"{folder}/{number}.class")) for number, it in enumerate(classes, 1)]
             self.unpack(work, min((os.cpu_count() or 1) - 1, self.size // (NESTED_PART if outer else PART)))
+
+    def folder(self, room, _):
+        """The folder into which its classes are unpacked, of which there are so many."""
+        return room.enter_context(tempfile.TemporaryDirectory(dir=in_memory(self.size)))
+
+    def write(self, path, data):
+        """Writes the bytes of a class, and returns lines that are to be told."""
+        write(path, data)
+        return ()
 
     def refuse_entries(self, infos):
         """Refuses two entries of one name, and one that is packed in a way that a virtual machine does not know."""
@@ -138,11 +149,10 @@ class Jar(Judged):
     def put(self, work):
         """Puts the bytes of each entry into its file, and gives the names in them, each as a line."""
         seen, found, size = set(), [], 0
-        with zipfile.ZipFile(self.source) as jar:
+        with Entries(self.source, MOST) as jar:
             for entry, path in work:
-                data = jar.open(entry).read(MOST)
-                with open(path, "wb") as it:
-                    it.write(data)
+                data = jar.data(entry)
+                yield from self.write(path, data)
                 found.append(data)
                 size += len(data)
                 if size > PIECE or entry is work[-1][0]:

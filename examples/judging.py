@@ -8,29 +8,16 @@ A class whose file is refused, or holds a class of another name, is none that a 
 loader finds it. `verify-each` leaves out such classes in the same way, so `judging_each` gives the same answers from one process.
 """
 import collections
-import errno
-import os
 import re
-import resource
 import subprocess
-import sys
-import tempfile
 import threading
 
 from folders import contents, names_in
-from output import Refused, escaped, printable, reason, unescaped
+from output import escaped, printable, unescaped
+from program import Profile, begin, call
 
-HERE = os.path.dirname(os.path.realpath(__file__))
-TOP = os.path.dirname(HERE)
-# In the repository, and where `.ci/install` puts it.
-WRAPPER, BUILT, INSTALLED = f"{TOP}/classck", f"{TOP}/crates/classck/out/classck", f"{os.path.dirname(TOP)}/bin/classck"
-PROGRAM = BUILT if os.path.isfile(WRAPPER) else INSTALLED
-# So many bytes of a process's answer are read: a method's name may stand in each of many lines, so the answer may be far longer than the file.
-MOST_OUTPUT = 1 << 28
 # After so many calls that miss a class, all classes that the judged one names are given.
 ROUNDS = 8
-# The limit of the stack at which Linux takes the longest lines that it takes at all, 6 MB.
-STACK = 1 << 25
 HEAD = re.compile(r"class (?P<name>.*) major (?P<major>\d+) minor (?P<minor>\d+) flags (?P<flags>[0-9a-f]{4})")
 INTERFACE = 0x0200
 ARRAY_INTERFACES = ("java/lang/Cloneable", "java/io/Serializable")
@@ -43,56 +30,8 @@ SUPER_MISSING, NOWHERE = "hierarchy refused 42 ", " is in no place"
 NOT_JUDGED = (11, 42, 60, 77)
 # The least major version of a class that is judged by a release, and what is added to the number of a release for the greatest.
 LEAST, OFFSET = 50, 44
-# The numbers of releases that the program knows.
-RELEASES = range(7, 28)
 # The status of answers in which nothing else is refused.
 WITHOUT_VERDICT = 3
-
-
-def begin_build():
-    """Begins to build the program if it is not built, or a source is newer, and returns the process. An installed program needs no build."""
-    words = [WRAPPER, "check", f"{HERE}/classes/Hello.class"]
-    return subprocess.Popen(words, stdout=subprocess.DEVNULL) if os.path.isfile(WRAPPER) else None
-
-
-def end_build(process):
-    """Waits for it. Ends with status 2 where the program cannot be built."""
-    if process and process.wait() == 3:
-        sys.exit(2)
-
-
-def build():
-    end_build(begin_build())
-
-
-def call(*words):
-    """The lines that the program prints on these words, those on standard error, and the status."""
-    with tempfile.TemporaryFile() as errors:
-        process = begin(words, errors)
-        with process.stdout as out:
-            text = out.read(MOST_OUTPUT + 1)
-        if len(text) > MOST_OUTPUT:
-            process.kill()
-        status = process.wait()
-        if len(text) > MOST_OUTPUT:
-            raise Refused(f"an answer has more than {MOST_OUTPUT} bytes")
-        if status < 0:
-            raise Refused(f"the program was ended by signal {-status}")
-        errors.seek(0)
-        return text.decode(), errors.read(1 << 16).decode(errors="replace").splitlines(), status
-
-
-def begin(words, errors):
-    """The program's process on these words. Where they are too long for a process, the limit that goes by that of the stack is raised."""
-    for is_last in (False, True):
-        try:
-            return subprocess.Popen([PROGRAM, *words], stdout=subprocess.PIPE, stderr=errors)
-        except OSError as why:
-            if why.errno != errno.E2BIG or is_last:
-                raise Refused(f"{escaped(PROGRAM)} cannot be called with {len(words)} words: {reason(why)}") from why
-        hard = resource.getrlimit(resource.RLIMIT_STACK)[1]
-        resource.setrlimit(resource.RLIMIT_STACK, (STACK if hard == resource.RLIM_INFINITY else min(STACK, hard), hard))
-    return None
 
 
 def missing_in(lines):
@@ -140,18 +79,6 @@ class Head(collections.namedtuple("Head", "name above is_interface refusal")):
     def is_array_class(self):
         """Whether it is no interface where arrays need one (44)."""
         return self.name in ARRAY_INTERFACES and not self.is_interface
-
-
-class Profile(collections.namedtuple("Profile", "dynamic release", defaults=(False, None))):
-    """How classes are judged: with --dynamic, and with --release and this number, or without them."""
-
-    def versions(self):
-        """The words by which the program knows the versions of class files."""
-        return ["--release", str(self.release)] if self.release else []
-
-    def words(self):
-        """The words of a command that judges."""
-        return [*(["--dynamic"] if self.dynamic else []), *self.versions()]
 
 
 class Verifier:

@@ -6,8 +6,9 @@ left out here too where its file holds a class of another name, since no class l
 import tempfile
 
 from folders import class_names, contents, names_in
-from judging import ARRAY_INTERFACES, NOWHERE, SUPER_MISSING, Head, call, holds_another, missing_in, only_judged, opened, refuses
+from judging import ARRAY_INTERFACES, NOWHERE, SUPER_MISSING, Head, holds_another, missing_in, only_judged, opened, refuses
 from output import Refused, escaped, unescaped
+from program import call
 
 OBJECT = "java/lang/Object"
 LEFT_OUT, WRONG_INTERFACE = "class refused 80", "hierarchy refused 44 "
@@ -19,16 +20,15 @@ STAND_IN = b"\xca\xfe\xba\xbe\0\0\0\x33\0\3\7\0\2\1\0\x10java/lang/Object\0\x21\
 class EachVerifier:
     """Calls `verify-each` for the classes of a class path, with the known classes of folders, and keeps what it said of each file."""
 
-    def __init__(self, flags, known):
-        self.flags, self.known, self.told, self.names_above, self.stand_in = flags, known, {}, {}, None
+    def __init__(self, flags, known, call=call):
+        self.flags, self.known, self.call, self.told, self.names_above, self.stand_in = flags, known, call, {}, {}, None
 
     def judge(self, path):
         """For each file of a class that is judged on this class path, the answer and its status."""
         own, others = path.own, [file for name, file in path.others().items() if self.told[file][0] == name]
         is_whole = False
         while not is_whole:
-            in_folders = [file for name, file in self.known.files.items() if path.find(name) == file]
-            has_object = self.ask([*own.values()], [*others, *in_folders])
+            has_object = self.ask([*own.values()], [*others, *self.in_folders(path)])
             count = len(own), len(self.known.seen)
             own = {name: file for name, file in own.items() if self.told[file][0] in (None, name)}
             self.known.add(self.wanted(own.values(), has_object))
@@ -37,11 +37,19 @@ class EachVerifier:
         lines = Chains(path, self).lines_of(left_out)
         return {file: self.answer(name, file, lines) for name, file in path.own.items()}
 
+    def in_folders(self, path):
+        """The files of the known classes that this class path finds, in an order that no search has part in."""
+        return sorted(file for name, file in self.known.files.items() if path.find(name) == file)
+
+    def words(self, files, known):
+        """The words by which the program judges these files among known ones."""
+        return ["verify-each", *self.flags, *(["--known", *known] if known else []), "--", *files]
+
     def ask(self, files, known):
         """Has one process judge the classes in these files among the known ones. Returns whether there is a class java/lang/Object."""
         if not files:
             return True
-        text, errors, status = call("verify-each", *self.flags, *(["--known", *known] if known else []), "--", *files)
+        text, errors, status = self.call(*self.words(files, known))
         if text == NO_OBJECT:
             self.ask(files, [*known, self.object_file()])
             return False

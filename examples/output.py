@@ -4,9 +4,8 @@ import os
 import re
 import sys
 
-UNPRINTED = re.compile(r"[^ -\[\]-~]")
-CONTROL = re.compile(r"[^ -~]")
-UNIT = re.compile(r"\\u([0-9a-f]{4})")
+# They are compiled where they are needed.
+UNPRINTED, CONTROL, UNIT = r"[^ -\[\]-~]", r"[^ -~]", r"\\u([0-9a-f]{4})"
 
 
 class Refused(Exception):
@@ -24,19 +23,21 @@ def escape(found):
 
 def escaped(name):
     """The name as the program prints names: printable ASCII as it is, the backslash and all else with escapes."""
-    return UNPRINTED.sub(escape, str(name))
+    name = str(name)
+    is_plain = name.isascii() and name.isprintable() and "\\" not in name
+    return name if is_plain else re.sub(UNPRINTED, escape, name)
 
 
 def printable(line):
     """A line that has its escapes already, with escapes for all that may not stand in a line."""
-    return CONTROL.sub(escape, line)
+    return re.sub(CONTROL, escape, line)
 
 
 def unescaped(text):
     """The name that the program prints as this text. Two units that are a pair are one character."""
     if "\\" not in text:
         return text
-    return joined(UNIT.sub(lambda it: chr(int(it[1], 16)), text))
+    return joined(re.sub(UNIT, lambda it: chr(int(it[1], 16)), text))
 
 
 def joined(text):
@@ -49,8 +50,21 @@ def reason(why):
     return escaped(getattr(why, "strerror", None) or why)
 
 
+def formatter(prog):
+    """The formatter of `argparse` for a terminal, whose width it would find by `shutil`, which takes long to load."""
+    width = os.environ.get("COLUMNS", "")
+    try:
+        columns = int(width) if width.isdecimal() and int(width) else os.get_terminal_size(sys.__stdout__.fileno()).columns
+    except (AttributeError, ValueError, OSError):
+        columns = 0
+    return argparse.HelpFormatter(prog, width=(columns or 80) - 2)
+
+
 class Parser(argparse.ArgumentParser):
     """Reads a command line; what it says of a wrong one has escapes."""
+
+    def __init__(self, **words):
+        super().__init__(formatter_class=formatter, **words)
 
     def error(self, message):
         self.print_usage(sys.stderr)
@@ -80,7 +94,8 @@ def run(main):
         say(f"no answer: {reason(why)}")
         status = 2
     give_up_output()
-    sys.exit(status)
+    # All is closed and removed by now: to free the memory takes as long as to read the command line.
+    os._exit(status)
 
 
 def give_up_output():

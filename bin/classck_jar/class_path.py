@@ -1,79 +1,116 @@
 """Jars and folders of a class path, as `java` takes them."""
 import os
+import tempfile
 import urllib.parse
 import zipfile
 
 from folders import MOST, Folder, beginnings_of, entries
-from jars import FAULTS, name_of
+from jars import FAULTS, in_memory, name_of
 from output import Refused, escaped, reason
+from unpacking import Entries, write
+
+from classck_jar import cache
 
 MANIFEST = "META-INF/MANIFEST.MF"
-# The most bytes of a manifest that are read.
-MOST_MANIFEST = 1 << 20
+# The most bytes of a manifest that are read, and the most jars that are open at once.
+MOST_MANIFEST, MOST_OPEN = 1 << 20, 64
+# The ways of packing that a virtual machine knows.
+PACKED = (zipfile.ZIP_STORED, zipfile.ZIP_DEFLATED)
 
 
 class ClassPathJar:
-    """A jar of a class path, as a place. A class of it is unpacked when it is asked for, into a file under a number in the folder of the store."""
+    """A jar of a class path, as a place. A class of it is unpacked when it is asked for, into a file of the store. No jar stays open."""
 
     def __init__(self, path, store):
         self.path, self.store, self.packages, self.unpacked = path, store, {}, {}
-        with told(path):
-            self.zip = zipfile.ZipFile(path)
-            for info in self.zip.infolist():
+        with told(path), zipfile.ZipFile(path) as it:
+            for number, info in enumerate(it.infolist()):
                 package, _, last = name_of(info).rpartition("/")
                 # Only what a virtual machine unpacks.
-                if last.endswith(".class") and info.compress_type in (zipfile.ZIP_STORED, zipfile.ZIP_DEFLATED):
-                    self.packages.setdefault(package, {}).setdefault(last, info)
+                if last.endswith(".class") and info.compress_type in PACKED:
+                    self.packages.setdefault(package, {}).setdefault(last, (number, info))
+            self.class_path = class_path_in(it)
 
     def classes(self, package):
         return self.packages.get(package, {}).keys()
 
     def file(self, package, last):
-        info = self.packages[package][last]
-        if info not in self.unpacked:
+        number, info = self.packages[package][last]
+        if number not in self.unpacked:
             with told(self.path):
-                self.unpacked[info] = self.store.put(self.zip.open(info).read(MOST))
-        return self.unpacked[info]
+                self.unpacked[number] = self.store.put(self.store.entries(self.path).data(info), self.path)
+        return self.unpacked[number]
 
     def beginnings(self):
         return beginnings_of(self.packages)
 
     def named_by_manifest(self):
         """The paths that the Class-Path of the manifest names, which are relative to the folder of the jar."""
-        try:
-            info = self.zip.getinfo(MANIFEST)
-            if info.compress_type not in (zipfile.ZIP_STORED, zipfile.ZIP_DEFLATED):
-                return []
-            lines = self.zip.open(info).read(MOST_MANIFEST).decode(errors="replace").splitlines()
-        except (KeyError, *FAULTS):
-            return []
-        value = ""
-        for line in lines:
-            if value and line.startswith(" "):
-                value += line[1:]
-            elif value or not line:
-                break
-            elif line.lower().startswith("class-path:"):
-                value = line.partition(":")[2]
-        paths = [urllib.parse.unquote(it.removeprefix("file:")) for it in value.split()]
+        paths = [urllib.parse.unquote(it.removeprefix("file:")) for it in self.class_path.split()]
         return [os.path.join(os.path.dirname(self.path), it) for it in paths if "\0" not in it]
 
 
+def class_path_in(jar):
+    """The Class-Path of the manifest of a jar; none where there is no such."""
+    try:
+        info = jar.getinfo(MANIFEST)
+        if info.compress_type not in PACKED:
+            return ""
+        lines = jar.open(info).read(MOST_MANIFEST).decode(errors="replace").splitlines()
+    except (KeyError, *FAULTS):
+        return ""
+    value = ""
+    for line in lines:
+        if value and line.startswith(" "):
+            value += line[1:]
+        elif value or not line:
+            break
+        elif line.lower().startswith("class-path:"):
+            value = line.partition(":")[2]
+    return value
+
+
 class Store:
-    """A folder into which classes are put, of at most so many bytes."""
+    """The files of classes of class paths, of at most so many bytes: in a folder under numbers, or in folders of the cache."""
 
-    def __init__(self, folder, left):
-        self.folder, self.left, self.count = folder, left, 0
+    def __init__(self, room, left, ahead):
+        self.room, self.left, self.ahead, self.count, self.opened, self.kept = room, left, ahead, 0, {}, {}
+        self.folder = room.enter_context(tempfile.TemporaryDirectory(dir=in_memory(1 << 28)))
+        room.callback(self.close)
 
-    def put(self, data):
-        """Puts the bytes of a class into a file, and returns its path."""
+    def close(self):
+        while self.opened:
+            self.opened.popitem()[1].close()
+
+    def entries(self, path):
+        """The entries of a jar, which is opened again: so many jars are open at once."""
+        if path not in self.opened:
+            if len(self.opened) >= MOST_OPEN:
+                self.opened.pop(next(iter(self.opened))).close()
+            self.opened[path] = Entries(path, MOST)
+        return self.opened[path]
+
+    def folder_of(self, path):
+        """The folder of the cache with classes of this jar, if they are kept."""
+        if path not in self.kept:
+            key = self.ahead.path and cache.key_of_jar(path)
+            self.kept[path] = self.ahead.folder(key and f"known-{key}", self.room)
+        return self.kept[path]
+
+    def put(self, data, jar):
+        """Puts the bytes of a class of a jar into a file, and returns its path."""
         self.left -= len(data)
         if self.left < 0:
             raise Refused("the known classes have more bytes than --most-bytes says")
+        kept = self.folder_of(jar)
+        if kept:
+            try:
+                return kept.keep(data)
+            except OSError:
+                self.ahead.forget()
         self.count += 1
         path = f"{self.folder}/{self.count}.class"
-        with open(path, "wb") as it:
-            it.write(data)
+        write(path, data)
         return path
 
 

@@ -1,12 +1,14 @@
 """The classes of a JDK: of `lib/modules`, which its own `jimage` extracts once into a cache, or of `rt.jar`."""
-import hashlib
+import contextlib
 import os
 import shutil
 import subprocess
-import tempfile
 
 from folders import beginnings_of, entries, regular
 from output import Refused, escaped, reason
+
+from classck_jar import cache
+from classck_jar.class_path import ClassPathJar
 
 # The last file that is written into an extracted JDK: the packages of each module, a line for each.
 INDEX = "packages"
@@ -36,25 +38,6 @@ class Modules:
         return beginnings_of(self.modules)
 
 
-def cache_folder():
-    """Where the JDKs are kept, for whoever runs this alone."""
-    folder = os.path.join(os.environ.get("XDG_CACHE_HOME") or os.path.expanduser("~/.cache"), "classck-jar")
-    os.makedirs(folder, 0o700, exist_ok=True)
-    return folder
-
-
-def key_of(home):
-    """The name of a JDK in the cache: the sum of its file `release`, and of how long its image is and when it was made."""
-    image = os.stat(f"{home}/lib/modules")
-    sum = hashlib.sha256(f"{image.st_size} {image.st_mtime_ns} ".encode())
-    try:
-        with open(f"{home}/release", "rb") as it:
-            sum.update(it.read(1 << 16))
-    except OSError:
-        sum.update(os.fsencode(os.path.realpath(home)))
-    return f"jdk-{sum.hexdigest()[:32]}"
-
-
 def packages_in(folder):
     """The packages of the modules in a folder, as lines."""
     for module in sorted(it.name for it in entries(folder)):
@@ -78,15 +61,25 @@ def extract(home, folder):
         it.writelines(lines)
 
 
-def modules_of(home, say):
-    """The modules of a JDK in the cache, into which they are extracted whole or not at all."""
-    cache = cache_folder()
-    path = f"{cache}/{key_of(home)}"
-    if not os.path.isfile(f"{path}/{INDEX}"):
+def modules_of(home, room, say):
+    """The modules of a JDK in the cache, into which they are extracted whole or not at all. They are held until `room` is left."""
+    top = cache.top()
+    path = f"{top}/{cache.key_of_jdk(home)}"
+    if not (cache.hold(path, room) and os.path.isfile(f"{path}/{INDEX}")):
         say(f"extracting the classes of {escaped(home)} once, into {escaped(path)}")
-        part = tempfile.mkdtemp(prefix="part-", dir=cache)
+        put_into(path, home)
+        cache.hold(path, room)
+        cache.shrink(top)
+    return Modules(path)
+
+
+def put_into(path, home):
+    """Extracts the modules of a JDK into a new folder, which takes this path once it is whole."""
+    with contextlib.ExitStack() as room:
+        part = cache.made_apart(os.path.dirname(path), room)
         try:
             extract(home, part)
+            cache.tell_bytes(part)
             if os.path.isdir(path) and not os.path.isfile(f"{path}/{INDEX}"):
                 shutil.rmtree(path)
             os.rename(part, path)
@@ -96,14 +89,13 @@ def modules_of(home, say):
                 raise Refused(f"{escaped(path)} cannot be written: {reason(why)}") from why
         finally:
             shutil.rmtree(part, ignore_errors=True)
-    return Modules(path)
 
 
-def places_of(home, open_jar, say):
+def places_of(home, store, say):
     """The places with the classes of the JDK in this folder."""
     if os.path.isfile(f"{home}/lib/modules"):
-        return [modules_of(home, say)]
+        return [modules_of(home, store.room, say)]
     for folder in (f"{home}/jre/lib", f"{home}/lib"):
         if os.path.isfile(f"{folder}/rt.jar"):
-            return [open_jar(f"{folder}/{it}") for it in OLD_JARS if os.path.isfile(f"{folder}/{it}")]
+            return [ClassPathJar(f"{folder}/{it}", store) for it in OLD_JARS if os.path.isfile(f"{folder}/{it}")]
     raise Refused(f"{escaped(home)} is no JDK: neither lib/modules nor rt.jar is there")

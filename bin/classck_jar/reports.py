@@ -4,8 +4,6 @@ import json
 
 from classck_jar.verdicts import ANSWERS, REFUSED_ANSWER, UNDECIDED
 
-FORMATS = ("text", "json", "sarif", "junit")
-
 
 def write(form, verdicts, summary, told):
     """Prints the report in this form. `told` are lines that are said beside the verdicts."""

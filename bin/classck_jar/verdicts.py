@@ -3,7 +3,7 @@ import collections
 import dataclasses
 
 from folders import contents
-from judging import NOT_JUDGED, REFUSED, WHOLE, lacking_in, missing_in, only_judged, refuses
+from judging import NOT_JUDGED, REFUSED, WHOLE, lacking_in, missing_in, refuses
 from output import escaped
 
 VERIFIED, UNDECIDED, REFUSED_ANSWER = "verified", "undecided", "refused"
@@ -78,9 +78,10 @@ def refusal_of(line, needs):
     return Refusal(line, number, name, tuple(needs.get(it, it) for it in missing))
 
 
-def read_answer(verdict, text, needs):
-    """Reads the answer on a class into its verdict."""
-    if only_judged(text):
+def read_answer(verdict, answer, needs):
+    """Reads the answer on a class, a text and whether a line of it refuses, into its verdict."""
+    text, status = answer
+    if not status:
         verdict.verified, verdict.no_code = f"{text}\n".count(" verified\n"), f"{text}\n".count(" no code\n")
         return verdict
     for line in text.splitlines():
@@ -98,7 +99,7 @@ def read_answer(verdict, text, needs):
 def verdicts_of(judged, answers, needs):
     """The verdicts on all classes of jars and folders, in the order of their entries."""
     return [
-        read_answer(ClassVerdict(entry, it.label, escaped(name), file), answers.found[file][0], needs)
+        read_answer(ClassVerdict(entry, it.label, escaped(name), file), answers.found[file], needs)
         for it in judged
         for entry, _, name, file in it.entries
     ]
