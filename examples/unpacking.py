@@ -76,9 +76,9 @@ def inflated(packed, info):
     return data if unpacker.eof else None
 
 
-def write(path, data):
+def write(path, data, mode=0o666):
     """Writes a new file, in one piece."""
-    file = os.open(path, os.O_WRONLY | os.O_CREAT | os.O_TRUNC | os.O_CLOEXEC, 0o666)
+    file = os.open(path, os.O_WRONLY | os.O_CREAT | os.O_TRUNC | os.O_CLOEXEC, mode)
     try:
         # Where the room ends a part is written.
         if os.write(file, data) != len(data):

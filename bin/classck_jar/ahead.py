@@ -169,7 +169,10 @@ def read(path):
     head, _, body = (cache.contents(path, MOST) or b"").partition(b"\n")
     if head != f"{HEAD}{zlib.crc32(body)}".encode():
         return [], None
-    words, _, names = body.decode(errors="surrogatepass").partition("\0\0")
+    try:
+        words, _, names = body.decode(errors="surrogatepass").partition("\0\0")
+    except UnicodeDecodeError:
+        return [], None
     # A name with a dot could lead out of a folder.
     is_fine = words.startswith("verify-each\0") and "." not in names
     return (words.split("\0"), names.split("\0")) if is_fine else ([], None)

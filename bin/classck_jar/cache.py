@@ -6,7 +6,8 @@
   call-SUM    what a call gave the program, and the names of the known classes
   part-ANY    what is being made; a call that was killed may leave one
 
-Who uses a folder holds it by a lock, so that no other call removes it.
+Who uses a folder holds it by a lock, so that no other call removes it. Modules that a call which is begun ahead can do without are loaded where they
+are needed: that takes as long as the rest.
 """
 import contextlib
 import fcntl
@@ -142,14 +143,16 @@ def contents(path, most):
 
 def put(path, data):
     """Writes a file whole or not at all: apart, and then under its name."""
+    from unpacking import write
+
     part = os.path.join(os.path.dirname(path), f"{PART}{os.getpid()}-{os.path.basename(path)}")
-    number = os.open(part, os.O_WRONLY | os.O_CREAT | os.O_TRUNC | os.O_NOFOLLOW | os.O_CLOEXEC, 0o600)
-    with open(number, "wb", buffering=0) as it:
-        written = it.write(data)
-    if written != len(data):
-        os.unlink(part)
-        raise OSError(28, os.strerror(28))
-    os.replace(part, path)
+    try:
+        write(part, data, 0o600)
+        os.replace(part, path)
+    except OSError:
+        with contextlib.suppress(OSError):
+            os.unlink(part)
+        raise
 
 
 def tell_bytes(path):
@@ -190,21 +193,19 @@ def shrink(path, most=MOST):
 
 def removed(path, entry):
     """Removes a folder or file unless a call holds it, and says whether it did."""
-    # Loaded where it is needed: that takes as long as the rest.
     import shutil
 
     try:
         if not entry.is_dir(follow_symlinks=False):
             os.unlink(entry.path)
             return True
-        number = os.open(entry.path, FOLDER)
-        try:
+        with contextlib.ExitStack() as here:
+            number = os.open(entry.path, FOLDER)
+            here.callback(os.close, number)
             fcntl.flock(number, fcntl.LOCK_EX | fcntl.LOCK_NB)
             gone = os.path.join(path, f"{PART}{os.getpid()}-{entry.name}")
             os.rename(entry.path, gone)
             shutil.rmtree(gone, ignore_errors=True)
-        finally:
-            os.close(number)
         return True
     except OSError:
         return False

@@ -97,7 +97,6 @@ def policy_of(given):
     """The policy of the command line, if it names one; with --baseline one that is not there yet has nothing."""
     if not given.policy:
         return None
-    # Loaded where it is needed: that takes as long as reading the command line.
     from classck_jar import policy
 
     if given.baseline:
