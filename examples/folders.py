@@ -134,6 +134,7 @@ class Known:
 
     def __init__(self, places):
         self.places, self.packages, self.files, self.seen = places, {}, {}, set()
+        self.checked = tuple(f"{it.path}/" for it in places if getattr(it, "is_checked", False))
         beginnings = sorted({re.escape(name) for it in places for name in it.beginnings()}, key=len, reverse=True)
         # A pattern that begins with a text is found faster than one of several, where they are few.
         groups = beginnings if len(beginnings) <= MOST_PATTERNS else [f"(?:{'|'.join(beginnings)})"]
@@ -167,3 +168,13 @@ class Known:
                 wanted.append(above or UNNAMED[0])
                 if own == name:
                     self.files[name] = file
+
+    def add_found(self, names):
+        """Adds classes of these names that an earlier search added. Where they are in a place whose classes are all known by their names, none is read."""
+        for name in names:
+            file = self.find(name)
+            if file and file.startswith(self.checked):
+                self.seen.add(name)
+                self.files[name] = file
+            else:
+                self.add([name])

@@ -26,7 +26,7 @@ class Gate:
         for it in self.given.classpath:
             places += class_path.places_of(it, store, self.progress.say)
         known = Known(places)
-        known.add(self.ahead.names or [])
+        known.add_found(self.ahead.names or [])
         return known
 
     def judge(self, build):

@@ -17,7 +17,9 @@ OLD_JARS = ("rt.jar", "jce.jar", "jsse.jar", "charsets.jar")
 
 
 class Modules:
-    """The extracted modules of a JDK, as a place. A package stands in one module, or in few."""
+    """The extracted modules of a JDK, as a place. A package stands in one module, or in few; `jimage` gives each class the path of its name."""
+
+    is_checked = True
 
     def __init__(self, path):
         self.path, self.modules = path, {}
