@@ -47,6 +47,12 @@ def name_of(info):
     return name.encode("cp437").decode("utf-8", "surrogateescape")
 
 
+def version_of(entry):
+    """The version of an entry, and its path below that; 0 for one of all versions."""
+    found = VERSION.fullmatch(entry)
+    return (int(found[1]), found[2]) if found else (0, entry)
+
+
 class Judged:
     """The classes of a jar or folder by their versions and names, in files, and the jars within it. `outer` stands in front of the names of its entries.
 
@@ -68,14 +74,20 @@ class Judged:
 
     def add(self, entry, file):
         """Adds the file of a class by its version and name, and returns it."""
-        found = VERSION.fullmatch(entry)
-        version, path = (int(found[1]), found[2]) if found else (0, entry)
+        version, path = version_of(entry)
         root = next((it for it in ROOTS if path.startswith(it)), "")
         name = path[len(root) : -len(".class")]
         if self.files.setdefault(version, {}).setdefault(name, file) != file:
             raise Refused(f"{self.label} has the class {escaped(name)} twice, once as {escaped(entry)}")
         self.entries.append((escaped(self.outer + entry), version, name, file))
         return file
+
+    def leave_out_above(self, release):
+        """Leaves out the classes of versions that no virtual machine of this release looks for, and returns how many these are."""
+        count = len(self.entries)
+        self.entries = [it for it in self.entries if it[1] <= release]
+        self.files = {version: files for version, files in self.files.items() if version <= release}
+        return count - len(self.entries)
 
     def refuse_size(self, left):
         """Refuses more bytes of classes than there may be."""

@@ -5,7 +5,7 @@ import urllib.parse
 import zipfile
 
 from folders import MOST, Folder, beginnings_of, entries
-from jars import FAULTS, in_memory, name_of
+from jars import FAULTS, in_memory, name_of, version_of
 from output import Refused, escaped, reason
 from unpacking import Entries, write
 
@@ -24,12 +24,24 @@ class ClassPathJar:
     def __init__(self, path, store):
         self.path, self.store, self.packages, self.unpacked = path, store, {}, {}
         with told(path), zipfile.ZipFile(path) as it:
-            for number, info in enumerate(it.infolist()):
-                package, _, last = name_of(info).rpartition("/")
-                # Only what a virtual machine unpacks.
-                if last.endswith(".class") and info.compress_type in PACKED:
-                    self.packages.setdefault(package, {}).setdefault(last, (number, info))
-            self.class_path = class_path_in(it)
+            attributes = attributes_of(it)
+            self.class_path = attributes.get("class-path", "")
+            is_multi = attributes.get("multi-release", "").lower() == " true"
+            self.fill(it, store.release if is_multi and store.release else 0)
+
+    def fill(self, jar, newest):
+        """Finds the classes of the jar; of one name that of the highest version up to this one, where it has versions."""
+        found = {}
+        for number, info in enumerate(jar.infolist()):
+            name = name_of(info)
+            version, path = version_of(name) if newest else (0, name)
+            # Only what a virtual machine unpacks.
+            is_class = path.endswith(".class") and info.compress_type in PACKED and version <= newest
+            if is_class and (path not in found or version > found[path][0]):
+                found[path] = version, number, info
+        for path, (_, number, info) in found.items():
+            package, _, last = path.rpartition("/")
+            self.packages.setdefault(package, {})[last] = number, info
 
     def classes(self, package):
         return self.packages.get(package, {}).keys()
@@ -50,31 +62,34 @@ class ClassPathJar:
         return [os.path.join(os.path.dirname(self.path), it) for it in paths if "\0" not in it]
 
 
-def class_path_in(jar):
-    """The Class-Path of the manifest of a jar; none where there is no such."""
+def attributes_of(jar):
+    """The main attributes of the manifest of a jar by their names in small letters; none where there is no such."""
     try:
         info = jar.getinfo(MANIFEST)
         if info.compress_type not in PACKED:
-            return ""
+            return {}
         lines = jar.open(info).read(MOST_MANIFEST).decode(errors="replace").splitlines()
     except (KeyError, *FAULTS):
-        return ""
-    value = ""
+        return {}
+    found, name = {}, None
     for line in lines:
-        if value and line.startswith(" "):
-            value += line[1:]
-        elif value or not line:
+        if not line:
             break
-        elif line.lower().startswith("class-path:"):
-            value = line.partition(":")[2]
-    return value
+        if line.startswith(" "):
+            found[name] = found.get(name, "") + line[1:]
+        else:
+            name, _, value = line.partition(":")
+            name = name.lower()
+            found[name] = value
+    return found
 
 
 class Store:
     """The files of classes of class paths, of at most so many bytes: in a folder under numbers, or in folders of the cache."""
 
-    def __init__(self, room, left, ahead):
-        self.room, self.left, self.ahead, self.count, self.opened, self.kept = room, left, ahead, 0, {}, {}
+    def __init__(self, room, left, ahead, release):
+        self.room, self.left, self.ahead, self.release = room, left, ahead, release
+        self.count, self.opened, self.kept = 0, {}, {}
         self.folder = room.enter_context(tempfile.TemporaryDirectory(dir=in_memory(1 << 28)))
         room.callback(self.close)
 

@@ -109,7 +109,7 @@ def main(usage):
     """Judges all, prints the report, and returns the status."""
     given = arguments(usage)
     progress, chosen = Progress(given.quiet), policy_of(given)
-    profile = Profile(given.dynamic or bool(chosen and chosen.dynamic), given.release)
+    profile = Profile(given.dynamic or bool(chosen and chosen.dynamic), given.release or (chosen and chosen.release))
     with contextlib.ExitStack() as room:
         room.callback(progress.done)
         ahead = room.enter_context(begun(given, profile))

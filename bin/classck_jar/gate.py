@@ -21,7 +21,7 @@ class Gate:
 
     def known(self):
         """The known classes: those of the JDK, and then those of the class path."""
-        store = class_path.Store(self.room, self.given.most_bytes, self.ahead)
+        store = class_path.Store(self.room, self.given.most_bytes, self.ahead, self.profile.release)
         places = jdk.places_of(self.given.jdk, store, self.progress.say) if self.given.jdk is not None else []
         for it in self.given.classpath:
             places += class_path.places_of(it, store, self.progress.say)
@@ -34,7 +34,7 @@ class Gate:
         given, ahead, known = self.given, self.ahead, self.known()
         self.progress.step("unpacking")
         # The names that an earlier call found are not looked for again.
-        found = inputs.Inputs(self.room, known if ahead.names is None else None, ahead, given.most_bytes)
+        found = inputs.Inputs(self, known if ahead.names is None else None)
         judged = found.unpack(given.judged, given.nested)
         end_build(build)
         self.progress.step(f"judging {sum(len(it.entries) for it in judged)} classes among {len(known.files)} known ones")
@@ -44,9 +44,8 @@ class Gate:
         # Found in the answers as they are before explanations stand in them.
         needs = answers.needs()
         self.explain(judged, answers)
-        left = inputs.left_out(judged, given.nested)
         lines = [f"{it.label} has no class" for it in judged if not it.entries]
-        return verdicts_of(judged, answers, needs), ([left] if left else []) + (lines if not any(it.entries for it in judged) else [])
+        return verdicts_of(judged, answers, needs), found.lines(given.nested) + (lines if not any(it.entries for it in judged) else [])
 
     def explain(self, judged, answers):
         """Has the first classes that are refused explained, where the report has room for that."""

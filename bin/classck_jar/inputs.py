@@ -67,8 +67,10 @@ def from_standard_input(most):
 class Inputs:
     """Unpacks the classes of jars and folders, at most so many bytes of all. `room` removes the files that are not kept."""
 
-    def __init__(self, room, known, ahead, most):
-        self.room, self.known, self.ahead, self.most, self.left, self.found = room, known, ahead, most, most, []
+    def __init__(self, gate, known):
+        self.room, self.ahead, self.release, self.known = gate.room, gate.ahead, gate.profile.release, known
+        self.most = self.left = gate.given.most_bytes
+        self.found, self.above = [], 0
 
     def unpack(self, words, is_nested):
         """The classes of the jars and folders of these words, and with them those of the jars within."""
@@ -101,7 +103,15 @@ class Inputs:
 
     def add(self, judged):
         self.left -= judged.size
+        self.above += judged.leave_out_above(self.release) if self.release else 0
         self.found.append(judged)
+
+
+    def lines(self, is_nested):
+        """What is left out, as lines."""
+        nested = left_out(self.found, is_nested)
+        above = f"{self.above} classes are of versions that Java SE {self.release} does not look for" if self.above else ""
+        return [it for it in (nested, above) if it]
 
 
 def left_out(judged, is_nested):

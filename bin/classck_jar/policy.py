@@ -6,10 +6,11 @@ import re
 import tempfile
 
 from output import Refused, escaped, reason
+from program import RELEASES
 
 from classck_jar.verdicts import ANOTHER_CLASS, TOO_NEW, Refusal, major_of
 
-KEYS = {"absent", "dynamic", "greatest_major", "allowed"}
+KEYS = {"absent", "dynamic", "release", "greatest_major", "allowed"}
 ENTRY_KEYS = {"class", "method", "number", "reason"}
 # The most bytes of a policy.
 MOST = 1 << 24
@@ -76,6 +77,8 @@ class Policy:
         self.absent, self.dynamic, self.greatest_major = found.get("absent", []), found.get("dynamic", False), found.get("greatest_major")
         checked(isinstance(self.absent, list) and all(isinstance(it, str) and it for it in self.absent), path, "`absent` is a list of patterns")
         checked(isinstance(self.dynamic, bool), path, "`dynamic` is true or false")
+        self.release = found.get("release")
+        checked(self.release is None or type(self.release) is int and self.release in RELEASES, path, f"`release` is a number of {RELEASES[0]} to {RELEASES[-1]}")
         checked(self.greatest_major is None or type(self.greatest_major) is int, path, "`greatest_major` is a number")
         entries = found.get("allowed", [])
         checked(isinstance(entries, list), path, "`allowed` is a list of tables")
@@ -146,7 +149,8 @@ class Policy:
                 elif not it.reason and it.number != TOO_NEW:
                     allowed.append(Allowed(verdict.name, it.number, it.method, BASELINE))
         table = {"absent": sorted(set(absent)), "allowed": [table_of(it) for it in dict.fromkeys(allowed)]}
-        return {**({"dynamic": True} if self.dynamic else {}), **({"greatest_major": self.greatest_major} if self.greatest_major is not None else {}), **table}
+        kept = {"dynamic": self.dynamic or None, "release": self.release, "greatest_major": self.greatest_major}
+        return {**{key: it for key, it in kept.items() if it is not None}, **table}
 
 
 def table_of(entry):
