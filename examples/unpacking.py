@@ -6,7 +6,7 @@ import struct
 import zipfile
 import zlib
 
-# What stands in front of the name of an entry: the mark, the flags, the way of packing, and the bytes of the name and of the extra field.
+# The bytes in front of the name of an entry: the mark, the flags, the way of packing, and the bytes of the name and of the extra field.
 LOCAL = struct.Struct("<4s2xHH16xHH")
 MARK = b"PK\3\4"
 # The flags that are not odd: how it was deflated (2, 4), that sizes stand behind it (8), and that its name is UTF-8.

@@ -7,6 +7,9 @@ import java.util.jar.JarFile;
 
 /**
  * Links, and so verifies, each class of the first jar of a class path, without running any of them, and prints its name and what came of it.
+ *
+ * <p>In this folder are also `debian`, which judges the jars of debian.txt by the gate and by this program, with its last lines in debian.out; and `warm`, which
+ * times a second call of the gate over a jar.
  */
 public class LinkedJar {
     private static String linked(ClassLoader loader, String name) {

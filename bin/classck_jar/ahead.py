@@ -10,7 +10,7 @@ import program
 
 from classck_jar import cache
 
-# What is kept of a call: its first line has a sum of what follows, which has so many bytes at most.
+# The first line of a call that is kept, with a sum of all that follows, which has so many bytes at most.
 HEAD, MOST = "classck-jar call 1 ", 1 << 24
 KILL = 9
 # The classes of so many jars are kept: the folder of each is open.
@@ -55,7 +55,7 @@ class Begun:
 
 
 class Ahead:
-    """What was kept of a call under this path, or nothing where there is none; and the process that is begun by it."""
+    """A call as it was kept under this path, or none; and the process that is begun by it."""
 
     def __init__(self, path=None):
         self.path, self.folders, self.begun, self.is_taken = path, [], None, False
@@ -98,7 +98,7 @@ class Ahead:
         return any(it.is_changed for it in self.folders)
 
     def call(self, *words):
-        """What the program answers on these words, as `program.call` gives it."""
+        """The answer of the program on these words, as `program.call` gives it."""
         if self.begun:
             is_right = [*words] == self.words and not self.is_changed()
             found = self.begun.ended() if is_right else None

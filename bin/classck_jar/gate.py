@@ -1,4 +1,4 @@
-"""What is judged and reported, once the command line is read: this is loaded while a call of the program works that was begun ahead."""
+"""The run of the gate, once the command line is read: this is loaded while a call of the program works that was begun ahead."""
 from folders import Known
 from jar_answers import Answers
 from output import escaped

@@ -108,7 +108,7 @@ class Inputs:
 
 
     def lines(self, is_nested):
-        """What is left out, as lines."""
+        """Lines on all that is left out."""
         nested = left_out(self.found, is_nested)
         above = f"{self.above} classes are of versions that Java SE {self.release} does not look for" if self.above else ""
         return [it for it in (nested, above) if it]

@@ -71,7 +71,8 @@ def modules_of(home, room, say):
         say(f"extracting the classes of {escaped(home)} once, into {escaped(path)}")
         put_into(path, home)
         cache.hold(path, room)
-        cache.shrink(top)
+        with contextlib.suppress(OSError):
+            cache.shrink(top)
     return Modules(path)
 
 
