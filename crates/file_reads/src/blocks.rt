@@ -42,11 +42,7 @@ fn take_block<R: Read>(bytes: &mut Vec<u8>, reader: &mut R) -> Result<usize, All
 }
 
 /// The class of so many bytes with which these begin, and one byte more if there is one, which may be still to be read.
-fn with_next<R: Read>(
-    mut bytes: Vec<u8>,
-    count: usize,
-    reader: &mut R,
-) -> Result<Vec<u8>, CutShort>
+fn with_next<R: Read>(mut bytes: Vec<u8>, count: usize, reader: &mut R) -> Result<Vec<u8>, CutShort>
     requires within { count ≤ length bytes.items }
     requires outline { IsOutline (take count bytes.items) }
     ensures { (before : Option (List ℕ)) → Consumes before (R.remaining reader.old) bytes.items
@@ -60,11 +56,7 @@ fn with_next<R: Read>(
 }
 
 /// Reads part by part, from the first of these bytes on and then from the reader.
-fn read_again<R: Read>(
-    alloc: Global,
-    bytes: &[u8],
-    reader: &mut R,
-) -> Result<Vec<u8>, CutShort>
+fn read_again<R: Read>(alloc: Global, bytes: &[u8], reader: &mut R) -> Result<Vec<u8>, CutShort>
     ensures { (before : Option (List ℕ)) → Consumes before (R.remaining reader.old) bytes.now
         → MatchResult result (λ v. IsReadOf before v.items) (λ e. IsCutOf before e.bytes.items e.why) }
 {

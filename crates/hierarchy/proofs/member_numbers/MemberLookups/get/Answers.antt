@@ -17,7 +17,7 @@ returns-in_err-name c numbers texts is =
     let first = c.get.ensures numbers.texts texts is.found in (
       record { among = is.among; found = first.0 },
       c.from_residual.ensures ∙ λ i. option_and_then (number_at numbers.members) (key_with ((sym c.in_err-name.was ∙ first.1) i)
-      (number_of numbers.texts (text_among texts c.args.member.descriptor)) c.args.member.kind),
+          (number_of numbers.texts (text_among texts c.args.member.descriptor)) c.args.member.kind),
     )
 
 pub returns-in_err-descriptor : goal.returns-in_err-descriptor
