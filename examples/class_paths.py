@@ -44,7 +44,7 @@ def all_seen_from(version, jars):
     """The classes of all jars as those of a version see them; of one name that of the first jar."""
     found = {}
     for it in reversed(jars):
-        found |= it.seen_from(version)
+        found.update(it.seen_from(version))
     return Classes(found)
 
 

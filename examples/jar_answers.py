@@ -19,7 +19,7 @@ class Answers:
     def judge(self):
         """Has one process for each class path judge the classes."""
         for path in self.paths:
-            self.found |= self.each.judge(path)
+            self.found.update(self.each.judge(path))
 
     def first_call(self):
         """The words of the first call, as it would be with all known classes that were found; and the names of these."""

@@ -98,7 +98,7 @@ class Judged:
         """Its classes by their names as those of a version see them: of one name that of the highest version up to this one."""
         found = {}
         for it in sorted(it for it in self.files if it <= version):
-            found |= self.files[it]
+            found.update(self.files[it])
         return found
 
 

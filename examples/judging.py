@@ -42,7 +42,7 @@ def missing_in(lines):
 def lacking_in(line):
     """The name of the superclass that is in no place, as this line of a class has it, or None."""
     is_nowhere = line.startswith(SUPER_MISSING) and line.endswith(NOWHERE)
-    return line.removesuffix(NOWHERE).rpartition(": ")[2] if is_nowhere else None
+    return line[: -len(NOWHERE)].rpartition(": ")[2] if is_nowhere else None
 
 
 def only_judged(text):

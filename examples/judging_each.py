@@ -17,6 +17,11 @@ NO_OBJECT, TOO_MANY = "hierarchy refused 43\n", "hierarchy refused 45\n"
 STAND_IN = b"\xca\xfe\xba\xbe\0\0\0\x33\0\3\7\0\2\1\0\x10java/lang/Object\0\x21\0\1" + bytes(10)
 
 
+def without_class(text):
+    """A line on a class without its first word."""
+    return text[len("class ") :] if text.startswith("class ") else text
+
+
 class EachVerifier:
     """Calls `verify-each` for the classes of a class path, with the known classes of folders, and keeps what it said of each file."""
 
@@ -59,7 +64,7 @@ class EachVerifier:
         if errors or len(answers) != len(files):
             raise Refused("; ".join(opened(it, [*files, *known]) for it in errors) or f"the program ended with status {status}")
         for file, answer in zip(files, answers):
-            head, _, lines = answer.removesuffix("\n").partition("\n")
+            head, _, lines = (answer[:-1] if answer.endswith("\n") else answer).partition("\n")
             name = head.partition(" ")[2]
             self.told[file] = unescaped(name) if name else None, lines
         return True
@@ -94,7 +99,7 @@ class EachVerifier:
         name, text = self.told.get(file, (OBJECT, ""))
         if file not in self.told or name in ARRAY_INTERFACES:
             return None
-        return Head(name, self.above(file) if name else None, True, text.removeprefix("class "))
+        return Head(name, self.above(file) if name else None, True, without_class(text))
 
     def read_all(self, files):
         """Has one process read all classes of folders that the classes in these files name, so that `head` knows them."""
@@ -140,7 +145,7 @@ class Chains:
         while at not in self.lines and at != OBJECT:
             if at in chain:
                 cycle = list(chain)[list(chain).index(at) :]
-                self.lines |= {it: f"hierarchy refused 41 {escaped(it)}" for it in cycle}
+                self.lines.update((it, f"hierarchy refused 41 {escaped(it)}") for it in cycle)
                 break
             chain[at] = self.above(at)
             lacking = self.lacking(chain[at])
@@ -166,4 +171,4 @@ class Chains:
         if file is None:
             return f"{escaped(name)}{NOWHERE}"
         told, text = self.each.told[file]
-        return Head(told, None, True, text.removeprefix("class ")).lacks(name)
+        return Head(told, None, True, without_class(text)).lacks(name)

@@ -58,7 +58,7 @@ class ClassPathJar:
 
     def named_by_manifest(self):
         """The paths that the Class-Path of the manifest names, which are relative to the folder of the jar."""
-        paths = [urllib.parse.unquote(it.removeprefix("file:")) for it in self.class_path.split()]
+        paths = [urllib.parse.unquote(it[len("file:") :] if it.startswith("file:") else it) for it in self.class_path.split()]
         return [os.path.join(os.path.dirname(self.path), it) for it in paths if "\0" not in it]
 
 
