@@ -137,12 +137,13 @@ def newer(home, room):
 
 
 def unlinked(home):
-    """HotSpot's answers to the stored classes that it does not link."""
-    lines = [f"{it.parent} {it}" for _, files in samples() for it in files]
-    words = [home / "bin/java", HERE.parent / "bench/Mutants.java"]
-    done = subprocess.run(words, input="\n".join(lines).encode(), stdout=subprocess.PIPE, check=True)
-    told = done.stdout.decode(errors="replace").splitlines()
-    return [f"{line}: {answer}" for line, answer in zip(lines, told) if answer != "ok"]
+    """HotSpot's words on each folder that it does not link whole."""
+    told = []
+    for release, files in samples():
+        words = [home / "bin/java", FOLDER / "Link.java", FOLDER / "classes" / release]
+        lines = subprocess.run(words, stdout=subprocess.PIPE, check=True).stdout.decode().splitlines()
+        told += lines if lines != [f"{len(files)} linked"] else []
+    return told
 
 
 def compared(write):
@@ -159,5 +160,5 @@ def compared(write):
     for it in (*names, *refused, *failed):
         print(f"examples/check: javac25: {it}")
     print(f"examples/check: {len(made)} classes made by {home.name}: {len(names)} not as stored")
-    print(f"examples/check: {len(refused)} methods refused if made for 25, {len(failed)} classes not linked by HotSpot")
+    print(f"examples/check: {len(refused)} methods refused if made for 25, {len(failed)} lines of HotSpot on classes that it does not link")
     return len(refused) + len(failed) + (0 if write else len(names))
