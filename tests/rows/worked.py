@@ -1,5 +1,5 @@
 """Worked examples of what classck answers, one table, from the texts of names to the verdicts on constructors: what the program shows of class files and
-code, given by their bytes. What only a library's call shows has the name of its test in crates/format_calls, lower_calls or public_calls."""
+code, given by their bytes. What only a library's call shows has the name of its test in a crate whose name ends with _calls."""
 from rows.known import KNOWN
 from tools.assembler import OBJECT, STATIC, ClassFile, attribute, class_info, code_attribute, member, name_and_type, named, reference, utf8
 from tools.class_k import BYTES, PLAIN_OBJECT

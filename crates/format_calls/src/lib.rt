@@ -1,5 +1,5 @@
 //! The tests of the public calls of `layout`, `names`, `pool`, `classfile` and `insn`. They stand in a crate of their
-//! own, so that each library is proved once and not a second time with its tests; `lower_calls` and `public_calls` have
+//! own, so that each library is proved once and not a second time with its tests; `lower_calls`, `machine_calls`, `verify_calls` and `public_calls` have
 //! those of the libraries above, so that the three can be proved beside each other.
 //!
 //! | File | What it tests |
@@ -14,7 +14,7 @@
 //! | `attribute_numbers` | `classfile`: attributes of numbers, read by row and column, and written |
 //! | `code_reading`, `code_writing` | `insn`: code both ways |
 //! | `code_forms` | `insn`: the form of each instruction |
-//! | `making` | what several of them, and of those in `lower_calls` and `public_calls`, stand on |
+//! | `making` | what several of them, and of those in the other crates of tests, stand on |
 //!
 //! A test with `memory` in its name passes also where any one allocation fails; `tests/run/allocations` runs those so.
 #![tactic(auto)]

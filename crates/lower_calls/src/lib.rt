@@ -1,5 +1,6 @@
 //! The tests of the public calls of the libraries above the formats and below the verifier, and of `printing`.
-//! `format_calls` has those of the libraries below, and `public_calls` those of the libraries above.
+//! `format_calls` has those of the libraries below; `machine_calls`, `verify_calls` and `public_calls` have those of the
+//! libraries above.
 //!
 //! | File | What it tests |
 //! |---|---|
@@ -17,7 +18,7 @@
 //! | `expected_types` | `rules`: what instructions name, their ways, what a frame lacks, and reasons together |
 //! | `printed_text` | `printing`: texts of class files, names and faults |
 //! | `declaring` | classes with members, for two of them |
-//! | `making` | what several of them, and of those in `public_calls`, stand on |
+//! | `making` | what several of them, and of those in the crates of tests above, stand on |
 //!
 //! A test with `memory` in its name passes also where any one allocation fails; `tests/run/allocations` runs those so.
 #![tactic(auto)]

@@ -1,7 +1,7 @@
 //! Walks by what a call answers, a branch takes and a handler catches, and among many objects; and the arguments with
 //! which a method begins.
-use crate::machine_steps::go;
-use crate::walks::{Stop, Walk, fresh, goes_by, on, raise, walk_alone, walk_of};
+use crate::making::{Stop, Walk, go, on};
+use crate::walks::{fresh, goes_by, raise, walk_alone, walk_of};
 use format_calls::making::OUT_OF_MEMORY;
 use machine::{Choice, Object, RunType, Status, Value};
 use names::{Base, Primitive, THROWABLE};

@@ -1,68 +1,14 @@
 //! Walks of the machine, from states in which a method begins.
-use crate::machine_steps::{go, machine_method};
+use crate::making::{Stop, Walk, machine_method, on, walk_from};
 use classfile::{CodeMethod, Formed, decode, form_check};
 use format_calls::making::{CATCHING, K, OUT_OF_MEMORY, catching};
 use hierarchy::{Classes, Rows, Summary};
 use lower_calls::making::{hasher, object, summary};
-use machine::{
-    Choice, Last, Method, Object, RunType, State, StepFault, Value, Walked, initial, is_initial,
-    walk,
-};
+use machine::{Choice, Object, RunType, State, Value, initial, is_initial};
 use names::{OBJECT, THROWABLE};
 use std::alloc::{AllocError, Global};
 use std::collections::BTreeMap;
 use std::test::*;
-
-/// Where a walk stops.
-#[derive(Clone, Copy, PartialEq, Eq)]
-pub enum Stop {
-    /// At this offset, all choices being used up, with the one item on the stack if there is one.
-    At(u16, Option<Value>),
-    Ended,
-    Fault,
-    NotAChoice,
-}
-
-/// How many choices were taken, and where the walk stops; or the number of a refusal.
-pub type Walk = Result<(usize, Stop), u8>;
-
-fn only(stack: &[Value]) -> Option<Value> {
-    match stack {
-        [value] => Some(*value),
-        _ => None,
-    }
-}
-
-pub fn stop_of(last: &Last<'_>) -> Stop {
-    match last {
-        Last::More(state) => Stop::At(state.at, only(&state.stack)),
-        Last::Ended => Stop::Ended,
-        Last::Fault => Stop::Fault,
-        Last::NotAChoice => Stop::NotAChoice,
-    }
-}
-
-fn told(walked: Result<Walked<'_>, StepFault>) -> Walk {
-    match walked {
-        Ok(walked) => Ok((walked.taken, stop_of(&walked.last))),
-        Err(fault) => Err(fault.number()),
-    }
-}
-
-/// The walk of a method by these choices, from the state in which it begins with these arguments and objects.
-pub fn walk_from<'a, C: Classes>(
-    alloc: Global,
-    method: &Method<'_, 'a>,
-    args: &[Value],
-    heap: &BTreeMap<u32, Object<'a>>,
-    choices: &[Choice<'a>],
-    classes: &C,
-) -> Walk {
-    match initial(alloc, method, args, heap, classes) {
-        Ok(start) => told(walk(alloc, method, classes, &start, choices)),
-        Err(fault) => Err(fault.number()),
-    }
-}
 
 /// The summaries of `java/lang/Object`, `java/lang/Throwable`, the classes K and A, and the interface I.
 fn known<'a>(alloc: Global) -> [Summary<'a>; 5] {
@@ -120,21 +66,6 @@ pub fn goes_by<'a>(alloc: Global, bytes: &'a [u8], choice: Result<Choice<'a>, Al
         Ok(choice) => walk_alone(alloc, bytes, &[choice]),
         Err(_) => Err(OUT_OF_MEMORY),
     }
-}
-
-/// The choice to go on, where there is no branch and no answer, with nothing new.
-pub fn on<'a>(alloc: Global) -> Choice<'a> {
-    go(alloc, None, None)
-}
-
-/// The choice to go on with this answer, and then three to go on.
-pub fn answered_first<'a>(alloc: Global, answer: Value) -> Result<Vec<Choice<'a>>, AllocError> {
-    let mut choices = Vec::new(alloc);
-    choices.push(go(alloc, None, Some(answer)))?;
-    for _ in 0..3 {
-        choices.push(on(alloc))?;
-    }
-    Ok(choices)
 }
 
 /// A new object of the class at 7, if one is named.

@@ -1,6 +1,6 @@
 //! The setting of rows of faults of the machine: a class K, states of its methods, and how a row is judged, by a step and
 //! by a walk of one choice.
-use crate::machine_steps::{go, machine_method};
+use crate::making::{go, machine_method};
 use classfile::{Formed, Profile, decode, form_check};
 use format_calls::making::OUT_OF_MEMORY;
 use hierarchy::{Classes, Rows};

@@ -1,13 +1,13 @@
 //! Dynamic calls and constants: looked up, and judged and run where a profile asks for it.
 use crate::verified_files::file;
 use crate::verified_walks::{RIGHT, walk_in};
-use crate::walks::{Stop, Walk, answered_first};
 use classfile::{Bootstraps, ClassFile, Formed, Profile, decode, form_check};
 use format_calls::making::{K, O, OUT_OF_MEMORY};
 use hierarchy::{Classes, Rows, summary_of};
 use insn::Act;
 use lower_calls::making::{hasher, object};
 use machine::Value;
+use machine_calls::making::{Stop, Walk, answered_first};
 use names::{Base, FieldType, Primitive};
 use pool::{CallSite, ConstantTypes, Pool};
 use rules::Members;

@@ -1,5 +1,6 @@
 //! Steps of methods of two bytes of code.
-use classfile::{ClassFile, Formed, decode, form_check};
+use crate::making::{go, machine_method};
+use classfile::{ClassFile, decode, form_check};
 use format_calls::making::{CATCHING, OUT_OF_MEMORY, catching};
 use hierarchy::Rows;
 use lower_calls::making::{hasher, object, summary};
@@ -60,23 +61,6 @@ fn step_of_method<'a>(
     }
 }
 
-/// The one method of the class as the machine takes it; or the number of what is wrong with its code, 0 if it has none.
-pub fn machine_method<'c, 'a>(
-    alloc: Global,
-    formed: &Formed<'c, 'a>,
-) -> Result<Method<'c, 'a>, u8> {
-    if formed.class().methods.len() != 1 {
-        return Err(0);
-    }
-    if formed.class().methods[0].code().is_none() {
-        return Err(0);
-    }
-    match Method::new(alloc, formed, 0) {
-        Ok(method) => Ok(method),
-        Err(fault) => Err(fault.number()),
-    }
-}
-
 /// The step of the one method of the class.
 fn step_of_class<'a>(
     alloc: Global,
@@ -103,16 +87,6 @@ pub fn step_of<'a>(
     match decode(alloc, bytes) {
         Ok(class) => step_of_class(alloc, &class, start, choice),
         Err(fault) => Err(fault.number()),
-    }
-}
-
-/// The choice to go on, to the place of this number where there is a branch, by this answer where there is one, with
-/// nothing new.
-pub fn go<'a>(alloc: Global, branch: Option<u16>, answer: Option<Value>) -> Choice<'a> {
-    Choice::Go {
-        branch,
-        answer,
-        fresh: Vec::new(alloc),
     }
 }
 

@@ -1,5 +1,6 @@
 //! Steps of instructions that name constants or use objects, in a method of six bytes of code.
-use crate::machine_steps::{go, step_of};
+use crate::machine_steps::step_of;
+use crate::making::go;
 use format_calls::making::OUT_OF_MEMORY;
 use machine::{Object, Outcome, RunType, Slot, State, Status, Value};
 use names::{Base, OBJECT};

@@ -1,11 +1,10 @@
 //! Walks of methods that are verified, and of those that are not.
-use crate::machine_steps::machine_method;
-use crate::walks::{Stop, Walk, answered_first, on, stop_of, walk_from};
 use classfile::{ClassFile, Formed, decode, form_check};
 use format_calls::making::{K, OUT_OF_MEMORY};
 use hierarchy::{Classes, Rows, summary_of};
 use lower_calls::making::{hasher, object};
 use machine::{Choice, State, Value};
+use machine_calls::making::{Stop, Walk, answered_first, machine_method, on, stop_of, walk_from};
 use std::alloc::Global;
 use std::collections::BTreeMap;
 use std::test::*;
