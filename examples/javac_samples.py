@@ -3,18 +3,21 @@
 sources/N are compiled for `--release N` into classes/N. library/ has the sources of known/, small classes that stand for those of the Java library, beside
 those of examples/known; expected.txt has the lines of `verify` on each class, and those of releases that do not take it. Every method is to be verified.
 """
+import itertools
 import pathlib
 import subprocess
 import tempfile
 
-from sample_runs import HERE, explained, jdk, own_classes, run, stand_ins
-from sample_runs import answered, compare
+from sample_runs import HERE, answered, compare, explained, jdk, own_classes, run, stand_ins
 
 FOLDER = HERE / "javac25"
 STORED = FOLDER / "expected.txt"
 RELEASES = ("21", "25")
 # Samples that are given without a release as well, and with those that do not take them.
-TAKEN_BY_FEW = ("21/Choices.class", "21/Trees$Fork.class", "25/Early$Chosen.class")
+TAKEN_BY_FEW = tuple(f"javac25/classes/{it}.class" for it in ("21/Choices", "21/Trees$Fork", "25/Early$Chosen"))
+COMMANDS = ("check", "verify", "explain", "verify-each")
+# One that each release takes, given with a known class of which this does not hold.
+OLDER = "classes/8/Sums.class"
 # javac takes no patch of a module with `--release`.
 PATCHED = ["-g:none", "-nowarn", "-Xlint:none", "-source", "21", "-target", "21", "--patch-module", f"java.base={FOLDER / 'library'}"]
 
@@ -55,14 +58,19 @@ def together(release, files, library):
 
 def taken_by_few():
     """What each command says of classes whose version is not judged, without a release and with two that are too low, and its status."""
-    for name in TAKEN_BY_FEW:
-        path = FOLDER / "classes" / name
-        for release in ("", "17", str(int(name[:2]) - 1)):
-            options = ["--release", release] if release else []
-            for command in ("check", "verify", "explain", "verify-each"):
-                text, status = run(command, *options, path, *others_of(command))
-                refused = [it for it in text.splitlines() if "refused" in it]
-                yield f"{name}, {' '.join([command, *options])}: {'; '.join(refused)} [{status}]"
+    for name, release, command in itertools.product(TAKEN_BY_FEW, (None, 17, -1), COMMANDS):
+        lower = int(pathlib.Path(name).parent.name) - 1
+        yield refused_by(command, lower if release == -1 else release, name, *others_of(command))
+    for release in (None, 17, 20):
+        yield refused_by("verify", release, OLDER, FOLDER / "known/java.lang.MatchException.class")
+
+
+def refused_by(command, release, name, *known):
+    """The lines of a command that refuse something, and its status, on one line."""
+    words = [command, *(["--release", str(release)] if release else [])]
+    text, status = run(*words, HERE / name, *known)
+    refused = [it for it in text.splitlines() if "refused" in it]
+    return f"{name}, {' '.join(words)}: {'; '.join(refused)} [{status}]"
 
 
 def others_of(command):
