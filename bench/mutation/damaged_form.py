@@ -34,20 +34,16 @@ class Whole(Class):
     def __init__(self, data):
         self.version = data[4:8]
         self.constants, at = constants_of(data)
-        self.front = self.head = [*struct.unpack_from(">HHH", data, at)]
+        self.head = [*struct.unpack_from(">HHH", data, at)]
         count = u2(data, at + 6)
         self.interfaces = [*struct.unpack_from(f">{count}H", data, at + 8)]
         self.fields, at = self.all_of(data, at + 8 + 2 * count)
         self.methods, at = self.all_of(data, at)
-        self.attributes = [list(it) for it in self.attributes_of(data, at)]
-
-    @staticmethod
-    def attributes_of(data, at):
-        return Class.attributes(data, at)[0]
+        self.class_attributes = [list(it) for it in self.attributes(data, at)[0]]
 
     def all_of(self, data, at):
         """The fields or methods from a place on, each as its three numbers and its attributes, and the place behind."""
-        given, at = Class.members(Class, data, at)
+        given, at = self.members(data, at)
         return [([*head], [self.opened(it) for it in attributes]) for head, attributes in given], at
 
     def opened(self, attribute):
@@ -60,14 +56,14 @@ class Whole(Class):
 
     def lists(self):
         """Each list of attributes."""
-        given = [self.attributes, *(attributes for _, attributes in (*self.fields, *self.methods))]
+        given = [self.class_attributes, *(attributes for _, attributes in (*self.fields, *self.methods))]
         return given + [body.attributes for it in given for _, body in it if isinstance(body, Code)]
 
     def data(self):
         head = b"\xca\xfe\xba\xbe" + self.version + struct.pack(">H", len(self.constants)) + b"".join(self.constants)
         numbers = (*self.head, len(self.interfaces), *self.interfaces)
         members = b"".join(struct.pack(">H", len(it)) + b"".join(map(member_bytes, it)) for it in (self.fields, self.methods))
-        return head + struct.pack(f">{len(numbers)}H", *numbers) + members + closed(self.attributes)
+        return head + struct.pack(f">{len(numbers)}H", *numbers) + members + closed(self.class_attributes)
 
 
 def closed(attributes):
