@@ -6,11 +6,8 @@ ghost use Rattle.classck.specs.Endings.{StopsReading};
 use crate::ending::Ending;
 use classfile::CutShort;
 use command_line::MainFault;
-use file_reads::read_whole;
-use layout::ReadFault;
-use std::alloc::Global;
+use file_reads::read_file;
 use std::fs::File;
-use std::io::BufReader;
 
 /// Gives back the room that the bytes of a file do not need, of which very many files would take as much as their own
 /// bytes many times.
@@ -29,21 +26,6 @@ fn without_room(read: Result<Vec<u8>, CutShort>) -> Result<Vec<u8>, CutShort>
     }
 }
 
-/// The bytes of the buffer through which a file is read. Three of four class files are not longer, and to make a buffer
-/// of twice as many takes more time than to read again.
-const BUFFER: usize = 4096;
-
-/// Reads a file through a buffer, as far as its class reaches and one byte more.
-fn read_file(alloc: Global, file: File) -> Result<Vec<u8>, CutShort> {
-    match BufReader::with_capacity(alloc, BUFFER, file) {
-        Ok(mut reader) => without_room(read_whole(alloc, &mut reader)),
-        Err(_) => Err(CutShort {
-            bytes: Vec::new(alloc),
-            why: ReadFault::OutOfMemory,
-        }),
-    }
-}
-
 /// Opens and reads the files, in order; the first that cannot be opened ends this.
 pub fn read_all(
     rt: &HostRuntime,
@@ -54,10 +36,10 @@ pub fn read_all(
 {
     let mut reads = Vec::new(rt.alloc());
     for i in 0..files.len() {
-        let Ok(file) = File::open(rt, &files[i]) else {
+        let Ok(mut file) = File::open(rt, &files[i]) else {
             return Err(Ending::Fault(MainFault::CannotOpen(i + 1)));
         };
-        reads.push(read_file(rt.alloc(), file))?;
+        reads.push(without_room(read_file(rt.alloc(), &mut file)))?;
     }
     Ok(reads)
 }

@@ -1,6 +1,6 @@
 -- The layout of class files (JVMS 4.1, 4.5 to 4.7): which bytes spell which class, and which fault comes first.
 -- Each layout is the parts that stand one after the other, in the order of the file.
-use Rattle.std.specs.Prelude.{◌≡◌, ℕ, ◌-◌, ◌≤◌, ◌<◌, Bool, List, Option, Some, None, length, nat_eq, if◌then◌else◌, ◌⊎◌}
+use Rattle.std.specs.Prelude.{◌≡◌, ℕ, ◌-◌, ◌≤◌, ◌<◌, List, Option, Some, None, length, nat_eq, if◌then◌else◌, ◌⊎◌}
 use Rattle.layout.specs.Format.{Format, Spells, done, part, refuse, andthen, number, times, inside}
 use Rattle.layout.specs.Whole.{WholeFault}
 use Rattle.layout.specs.declared.limits.TheConstants.{MAX_CLASS_BYTES}

@@ -1,3 +1,4 @@
+pub mod Consumed
 pub mod Extents
 pub mod Fronts
 pub mod Outlines

@@ -1,2 +1,3 @@
 -- Words of the code's own steps, which its private contracts use: nothing that a reader must believe rests on them.
+pub mod BlockReads
 pub mod Passing

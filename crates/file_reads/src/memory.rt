@@ -11,7 +11,7 @@ use layout::{MAX_CLASS_BYTES, ReadFault};
 use std::alloc::Global;
 
 /// How many bytes the outline takes with which the file begins; `None` where it begins with none, or may.
-fn class_length(file: &[u8]) -> Option<usize>
+pub(crate) fn class_length(file: &[u8]) -> Option<usize>
     ensures within { IfSome result (λ n. n ≤ length file.now) }
     ensures outline { IfSome result (λ n. IsOutline (take n file.now)) }
 {

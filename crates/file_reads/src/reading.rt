@@ -11,7 +11,7 @@ use std::io::Read;
 
 /// A byte that stands after the bytes of a class, if there is one, is appended to them: it tells that the file is
 /// longer.
-fn read_behind<R: Read>(mut bytes: Vec<u8>, reader: &mut R) -> Result<Vec<u8>, CutShort>
+pub(crate) fn read_behind<R: Read>(mut bytes: Vec<u8>, reader: &mut R) -> Result<Vec<u8>, CutShort>
     ensures bytes { IfOk result (λ v. IfSome (R.remaining reader.old) (λ rest. v.items ≡ bytes.items ++ take 1 rest)) }
     ensures fault { IfErr result (λ e. (e.bytes.items ≡ bytes.items)
         × ((e.why ≡ OutOfMemory) ⊎ (e.why ≡ ReadFailed (length bytes.items)))) }
@@ -37,7 +37,7 @@ fn read_behind<R: Read>(mut bytes: Vec<u8>, reader: &mut R) -> Result<Vec<u8>, C
 /// The bytes of the class that a file holds, and one byte more if there is one; or why they were not read to the end
 /// of the class, with those that were: a fault of [`read_class`].
 #[tactic(auto, using(crate::proofs::Fronts::taken_in_front, crate::proofs::Fronts::stopped_in_front))]
-pub fn read_whole<R: Read>(alloc: Global, reader: &mut R) -> Result<Vec<u8>, CutShort>
+pub(crate) fn read_whole<R: Read>(alloc: Global, reader: &mut R) -> Result<Vec<u8>, CutShort>
     // Where it is known what the reader gives, that is the front of it that is an outline, and the byte after it.
     ensures bytes { IfOk result (λ v. IfSome (R.remaining reader.old) (λ stream. ReadsOn stream v.items)) }
     // Otherwise it has no such front, or memory ran out, or the reader failed.

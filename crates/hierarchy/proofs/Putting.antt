@@ -88,15 +88,6 @@ split_more value ps p old new is takes = record {
   most_even = λ most h. takes.most_even most (h (length ps) p (last_is ps p)) (is.most_even most (λ i q e. h i q (first_stays ps p i q e)));
 }
 
-pub split_none : (value : ℕ) (s : Split) → s.value ≡ value → s.odd.items ≡ [] → s.even.items ≡ [] → IsSplit value [] s
-split_none value s same odd even = record {
-  top = same;
-  odd = λ j v. ap (λ xs. put_in xs j v) odd;
-  even = λ j v. ap (λ xs. put_in xs j v) even;
-  most_odd = λ most h. subst (Most ((most - 1) / 2)) (sym odd) (λ i p e. absurd (none_some e));
-  most_even = λ most h. subst (Most ((most - 1) / 2)) (sym even) (λ i p e. absurd (none_some e));
-}
-
 -- ---- the node at the top
 
 -- the version that has the node already

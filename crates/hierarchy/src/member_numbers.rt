@@ -47,11 +47,11 @@ impl<'n, 'k, 't, 'a> MemberLookups<'n, 'k, 't, 'a> {
             → AreLookups numbers texts self.new × (result ≡ member_number numbers member.kind
             (text_among texts member.name) (text_among texts member.descriptor)) }
     {
-        let name = self.texts.get(member.name);
-        let descriptor = self.texts.get(member.descriptor);
+        let name = self.texts.get(member.name)?;
+        let descriptor = self.texts.get(member.descriptor)?;
         let key = MemberKey {
-            name: name?,
-            descriptor: descriptor?,
+            name,
+            descriptor,
             kind: member.kind,
         };
         self.numbers.members.get(&key).copied()

@@ -41,9 +41,6 @@ pub nothing_by_request : (r : Request) (bytes ends : List ℕ) → ((command : C
 nothing_by_request r bytes ends none files command are asks =
     none command (subst (λ (n : ℕ). Asks r n command) (sym (ends_count bytes ends files are)) asks)
 
-pub nothing_by_ends : (r : Request) (bytes ends : List ℕ) → ((files : List (List ℕ)) → AreFiles bytes ends files → ⊥) → NothingAsked r bytes ends
-nothing_by_ends r bytes ends none files command are asks = none files are
-
 pub given : (r : Request) (bytes ends old new text : List ℕ) (outcome : Outcome) → Told r bytes ends text outcome.status → outcome.needed ≡ length text
     → new ≡ take (length old) text ++ drop (length text) old → Answers r bytes ends old new outcome
 given r bytes ends old new text outcome told needed put = inl (text, told, needed, put)
