@@ -5,6 +5,10 @@ from dataclasses import replace
 
 from tools.assembler import class_info, member, name_and_type, utf8
 from tools.class_k import K, OBJECT_CLASS, code_f, with_constant
+from tools.places import TOP
+from tools.schema import errors
+
+SCHEMA = json.loads((TOP / "docs/answers.schema.json").read_text())
 
 # After the number of a refusal: what stands in the line, and the fields that it is.
 ENDINGS = [
@@ -168,12 +172,25 @@ def wanted(text):
     return [list(fields(line)) for line in text.splitlines()]
 
 
+def unlike_schema(pairs):
+    """Why the fields of an object are not those of the schema; and that it takes them with one more, or without the first."""
+    value = dict(pairs)
+    yield from errors(value, SCHEMA)
+    if len(value) < len(pairs):
+        yield "a field stands twice"
+    if not any(errors({**value, "other": 1}, SCHEMA)):
+        yield "the schema takes any field"
+    if not any(errors(dict(pairs[1:]), SCHEMA)):
+        yield "the schema takes an object without its kind"
+
+
 def printed(text):
     """The objects of an answer, as lists of fields; of a line that is no JSON, or is not printable ASCII, why."""
     objects = []
     for line in text.split("\n")[:-1]:
         try:
             objects.append(json.loads(line, object_pairs_hook=list))
+            objects += unlike_schema(objects[-1])
         except ValueError as error:
             objects.append(str(error))
         if not re.fullmatch(r"[ -~]+", line):

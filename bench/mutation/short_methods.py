@@ -3,7 +3,7 @@ import pathlib
 import sys
 from dataclasses import replace
 
-sys.path.insert(0, str(pathlib.Path(__file__).resolve().parent.parent / "tests"))
+sys.path.insert(0, str(pathlib.Path(__file__).resolve().parents[2] / "tests"))
 from rows.verify.references import Constants, assembled
 from tools.assembler import FORMS, MNEMONICS, OBJECT, STATIC, named
 from tools.class_k import K, code_f, method_f

@@ -8,7 +8,7 @@ import re
 import struct
 import sys
 
-TOP = pathlib.Path(__file__).resolve().parent.parent
+TOP = pathlib.Path(__file__).resolve().parents[2]
 sys.path[:0] = [str(TOP / "tests"), str(TOP / "examples")]
 from folders import SIZES
 from tools.assembler import FORMS, MNEMONICS

@@ -12,6 +12,7 @@ import java.util.Map;
  * Defines and links the classes in the files that standard input names, without running them, and says how each is
  * judged: see bench/mutants. A line is a folder of the classes that the class may refer to, whose loader defines it,
  * and the path of its file; the answer is `ok`, or the name of the error and its message, on one line.
+ * Beside it: damaged.py and damaged_form.py change the code and the form of classes, short_methods.py makes some.
  */
 public class Mutants {
     private static class Loader extends URLClassLoader {

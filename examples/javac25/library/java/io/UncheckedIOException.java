@@ -1,0 +1,3 @@
+package java.io;
+
+public class UncheckedIOException extends RuntimeException {}

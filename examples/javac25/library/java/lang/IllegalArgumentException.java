@@ -1,0 +1,3 @@
+package java.lang;
+
+public class IllegalArgumentException extends RuntimeException {}

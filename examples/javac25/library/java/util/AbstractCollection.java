@@ -1,0 +1,3 @@
+package java.util;
+
+public abstract class AbstractCollection<E> {}

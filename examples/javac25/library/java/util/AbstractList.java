@@ -1,0 +1,3 @@
+package java.util;
+
+public abstract class AbstractList<E> extends AbstractCollection<E> {}

@@ -1,0 +1,3 @@
+package java.util;
+
+public class ArrayList<E> extends AbstractList<E> {}
