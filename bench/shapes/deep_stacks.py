@@ -2,8 +2,8 @@
 import struct
 
 from class_bytes import full_frame, stack_map
-from long_descriptors import class_file
-from long_texts import indices, utf8
+from shapes.long_descriptors import class_file
+from shapes.long_texts import indices, utf8
 
 ICONST_0, DUP, DUP2, POP, RETURN, GOTO_W = b"\x03", b"\x59", b"\x5c", b"\x57", b"\xb1", b"\xc8"
 ASTORE, ALOAD = b"\xc4\x3a", b"\xc4\x19"  # after wide, with two bytes for the local

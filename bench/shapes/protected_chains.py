@@ -1,7 +1,7 @@
 """Classes whose methods read protected fields of classes far above, and these classes, for `bench/hostile`: one judged beside known ones, or all in play."""
 import struct
 
-from long_texts import LONGEST, indices, utf8
+from shapes.long_texts import LONGEST, indices, utf8
 
 ACONST_NULL, ALOAD_0, POP, RETURN, GETFIELD = b"\x01", b"\x2a", b"\x57", b"\xb1", b"\xb4"
 STATIC, PROTECTED = 9, 4

@@ -2,8 +2,8 @@
 import struct
 
 from class_bytes import Constants, class_of_members, code_attribute, frame, handler, interface, member
-from explained_frames import AT_HANDLER, AT_TARGET, text
-from long_names import array, named
+from shapes.explained_frames import AT_HANDLER, AT_TARGET, text
+from shapes.long_names import array, named
 
 ICONST_0, RETURN, TABLESWITCH = b"\x03", b"\xb1", b"\xaa"
 TOP, FLOAT = b"\x00", b"\x02"

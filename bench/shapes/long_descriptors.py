@@ -2,7 +2,7 @@
 import struct
 
 from class_bytes import at
-from long_texts import LONGEST, indices, utf8
+from shapes.long_texts import LONGEST, indices, utf8
 
 NOP, ACONST_NULL, ICONST_0, ALOAD_0, POP, RETURN = b"\x00", b"\x01", b"\x03", b"\x2a", b"\x57", b"\xb1"
 GETSTATIC, PUTFIELD, INVOKESPECIAL, INVOKESTATIC, CHECKCAST = b"\xb2", b"\xb5", b"\xb7", b"\xb8", b"\xc0"

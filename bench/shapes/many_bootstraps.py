@@ -1,7 +1,7 @@
 """Class files with very many bootstrap methods, or one of very many static arguments, for `bench/hostile`."""
 import struct
 
-from long_texts import indices, utf8
+from shapes.long_texts import indices, utf8
 
 INVOKEDYNAMIC, RETURN = b"\xba", b"\xb1"
 # At 1 and 3 the class and its superclass, at 5 `()V`, at 6 and 7 the names of attributes, at 8 a method handle, at 10

@@ -1,6 +1,6 @@
 """Very many small classes, classes of very many members, and references that name one long text, for `play`, `verify-each` and `verify` in `bench/hostile`."""
 from class_bytes import Constants, at, class_of_members, code_attribute, frame, member
-from long_texts import LONGEST
+from shapes.long_texts import LONGEST
 
 ACONST_NULL, RETURN, GETFIELD, INVOKEVIRTUAL = b"\x01", b"\xb1", b"\xb4", b"\xb6"
 FIELDREF, METHODREF = 9, 10
