@@ -10,6 +10,6 @@
   verdicts    the three answers, of each class and of all
   policy      what may be missing and what is let pass
   reports     the report as text and as JSON Lines
-  sarif       the report as SARIF
+  sarif       the report as SARIF; helps: what it says that can be done
   junit       the report as JUnit XML
 """

@@ -2,6 +2,8 @@
 import json
 import urllib.parse
 
+from classck_jar.helps import HELPS
+
 STANDARD = "https://docs.oracle.com/javase/specs/jvms/se17/html/jvms-4.html"
 SCHEMA = "https://json.schemastore.org/sarif-2.1.0.json"
 # The rules of answers that are explained nowhere.
@@ -40,6 +42,8 @@ def rule_object(number, refusals):
     sentence = next((it.sentence() for it in refusals if it.explained), MEANINGS.get(number, f"refused by {number}"))
     name, _, meaning = sentence.partition(": ")
     rule = {"id": rule_id(number), "shortDescription": {"text": meaning or name}, "helpUri": STANDARD, "defaultConfiguration": {"level": level_of(refusals[0])}}
+    if number in HELPS:
+        rule["help"] = {"text": f"What can be done: {HELPS[number]}. docs/REFUSALS.md of classck has more on {number}."}
     return {**rule, "name": name} if meaning else rule
 
 
