@@ -16,10 +16,12 @@ class Answers:
         self.of_file = {file: (name, path) for path in self.paths for name, file in path.own.items()}
         self.profile, self.each, self.found = profile, EachVerifier(profile.words(), known, call), {}
 
-    def judge(self):
-        """Has one process for each class path judge the classes."""
+    def judge(self, step=None):
+        """Has one process for each class path judge the classes; `step` is told how many of all are judged, after each."""
         for path in self.paths:
             self.found.update(self.each.judge(path))
+            if step:
+                step(len(self.found), len(self.of_file))
 
     def first_call(self):
         """The words of the first call, as it would be with all known classes that were found; and the names of these."""

@@ -39,10 +39,11 @@ class Gate:
         end_build(build)
         self.progress.step(f"judging {sum(len(it.entries) for it in judged)} classes among {len(known.files)} known ones")
         answers = Answers(judged, [], known, self.profile, ahead.call)
-        answers.judge()
+        answers.judge(lambda done, all: self.progress.step(f"judged {done} of {all} classes"))
         ahead.keep(answers.first_call)
         # Found in the answers as they are before explanations stand in them.
         needs = answers.needs()
+        self.progress.step(f"judged {len(answers.found)} classes; {len(set(needs.values()))} others are missing")
         self.explain(judged, answers)
         lines = [f"{it.label} has no class" for it in judged if not it.entries]
         return verdicts_of(judged, answers, needs), found.lines(given.nested) + (lines if not any(it.entries for it in judged) else [])
