@@ -1,6 +1,8 @@
 //! Versions of class files, and classes that are judged as a release of Java SE does.
 use answers::{Command, Form, answer};
-use classfile::{CutShort, Profile, Versions, decode_under, encode_under, form_check};
+use classfile::{
+    ClassFile, CutShort, FormFault, Profile, Versions, decode_under, encode_under, form_check,
+};
 use format_calls::making::{K, O, OUT_OF_MEMORY};
 use layout::{ReadFault, WriteFault};
 use lower_calls::making::hasher;
@@ -47,11 +49,19 @@ fn object(major: u8) -> [u8; 46] {
     bytes
 }
 
+/// Whether a class is well formed, as far as memory goes.
+fn is_formed(alloc: Global, class: &ClassFile<'_>) -> bool {
+    match form_check(alloc, class) {
+        Ok(_) => true,
+        Err(fault) => matches!(fault, FormFault::OutOfMemory),
+    }
+}
+
 /// Whether bytes are read as a class of these versions, and written as they were; or the version that is refused.
 fn is_read_and_written(alloc: Global, versions: Versions, bytes: &[u8]) -> Result<bool, u16> {
     match decode_under(alloc, versions, bytes) {
         Ok(class) => match encode_under(alloc, versions, &class) {
-            Ok(written) => Ok(written.as_slice() == bytes && form_check(alloc, &class).is_ok()),
+            Ok(written) => Ok(written.as_slice() == bytes && is_formed(alloc, &class)),
             Err(fault) => Ok(matches!(fault, WriteFault::OutOfMemory)),
         },
         Err(ReadFault::BadVersion { major, .. }) => Err(major),
