@@ -15,7 +15,8 @@ use Rattle.classfile.specs.Layouts.{layout_at}
 use Rattle.classfile.specs.Numbers.{is_laid_out}
 use Rattle.classfile.specs.Values.{of_parts, of_numbers, raw, Handler, Nested, CodeBody, Attribute, Member, Component, ClassAttribute, Class}
 use Rattle.classfile.specs.declared.versions.Versions.{Versions}
-use Rattle.classfile.specs.Versions.{is_version}
+use Rattle.classfile.specs.Versions.{is_version, is_release}
+use mathlib.Core.Bool.{beq}
 use Rattle.classfile.specs.private.Pieces.{has_none, handler_pieces, nested_pieces, code_pieces, attribute_pieces, member_pieces, component_pieces, class_attribute_pieces, class_pieces}
 use Rattle.classfile.specs.Sizes.{is_u2, total, entry_fits, entry_size, pool_fits, pool_size, handler_fits, nested_fits, nested_size, code_fits, code_size, attribute_fits, attribute_size, member_fits, member_size, component_fits, component_size, class_attribute_fits, class_attribute_size, class_fits, class_size}
 use Rattle.classfile.proofs.Measures.{Measured, measured_append, measured_none, measured_plain, measured_unspelled, measured_marked, measured_1, measured_2, measured_4, measured_lengthened, measured_table}
@@ -135,13 +136,19 @@ class_attribute_measure pool place (of_parts name components) =
 class_attribute_measure pool place (of_numbers name n) = kept_measure name (unlike (is_record pool place name) && is_laid_out (layout_at pool place name) n) n.body
 class_attribute_measure pool place (raw name body) = kept_measure name (unlike (is_record pool place name) && has_none (layout_at pool place name)) body
 
+-- what no byte is written for
+measured_behind : {q : List Piece} {f : Bool} {m : ℕ} (b : Bool) → Measured q f m → Measured (marked b [] ++ q) f m
+measured_behind true a = a
+measured_behind false a = measured_unspelled a
+
 pub class_measure : (v : Versions) (c : Class) → Measured (class_pieces v c) (class_fits c) (class_size c)
 unfolding class_pieces
 class_measure v c =
     measured_append (measured_append (measured_4 0xCAFEBABE) (measured_append (measured_2 c.minor_version) (measured_marked (is_version v c.minor_version c.major_version) (measured_2 c.major_version))))
+    (measured_behind (beq (is_release v) c.release)
     (measured_append (pool_measure c.constant_pool)
     (measured_append (three_measure c.access_flags c.this_class c.super_class)
     (measured_append (measured_table measured_2 c.interfaces)
     (measured_append (measured_table (member_measure c.constant_pool location.Field) c.fields)
     (measured_append (measured_table (member_measure c.constant_pool location.Method) c.methods)
-    (measured_table (class_attribute_measure c.constant_pool (location.Class c.major_version)) c.attributes))))))
+    (measured_table (class_attribute_measure c.constant_pool (location.Class c.major_version)) c.attributes)))))))

@@ -250,7 +250,7 @@ unfolding layouts.class_attributes attributes
 covers_class_attributes entries_of place = covers_table _ _ (covers_class_attribute entries_of place)
 
 covers_class : (versions : Versions) → Covers (layouts.class versions) outline Any
-unfolding layouts.class outline behind_pool
+unfolding layouts.class outline behind_pool layouts.manner
 covers_class versions =
     covers_then (layouts.version versions) head _ _ Any Any (covers_head versions) (λ version v r.
     covers_then pool_entries pool _ _ Any Any covers_pool (λ entries_of w s.

@@ -77,10 +77,10 @@ places = refl
 
 flags :
     ((has 0x0208 0x0008, has 0x0200 0x0008)
-    ∷ (are_bad_class_flags 0x0610, are_bad_class_flags 0x0601)
-    ∷ (are_bad_class_flags 0x0410, are_bad_class_flags 0x0400)
-    ∷ (are_bad_class_flags 0x0200, are_bad_class_flags 0x0600)
-    ∷ (are_bad_class_flags 0x8000, are_bad_class_flags 0x4031)
+    ∷ (are_bad_class_flags 52 0x0610, are_bad_class_flags 52 0x0601)
+    ∷ (are_bad_class_flags 52 0x0410, are_bad_class_flags 52 0x0400)
+    ∷ (are_bad_class_flags 50 0x0200, are_bad_class_flags 49 0x0200)
+    ∷ (are_bad_class_flags 52 0x8000, are_bad_class_flags 52 0x4031)
     ∷ (are_bad_field_flags 0x0003, are_bad_field_flags 0x0001)
     ∷ (are_bad_field_flags 0x0050, are_bad_field_flags 0x0012)
     ∷ (are_bad_method_flags false false 0x0006, are_bad_method_flags false false 0x0004)
@@ -222,6 +222,7 @@ records = refl
 
 abbrev class : (access_flags this_class super_class : ℕ) → List ℕ → Class
 class access_flags this_class super_class interfaces = record {
+  release = false;
   minor_version = 0;
   major_version = 52;
   constant_pool = pool;

@@ -30,7 +30,7 @@ use Rattle.classfile.specs.AttributeForm.{on_body, head_has_bad, head_has_other,
 use Rattle.classfile.specs.MemberForm.{member_has_bad, member_has_other, may_describe_method, is_badly_described}
 use Rattle.classfile.specs.WellFormed.{WellFormed, conditions_of_method}
 use Rattle.classfile.specs.Methods.{ExceptionEntry, code_of, class_named, caught_type, entry_with, exception_entries}
-use Rattle.classfile.proofs.Places.{class_is, method_is}
+use Rattle.classfile.proofs.Places.{own_rule, class_is, method_is}
 use Rattle.classfile.proofs.NamingLaws.{ok_value, void_value}
 use Rattle.classfile.proofs.FormedNames.{none_holds, not_false, left_not, right_not, class_there, both_named, texts_there, this_fits}
 
@@ -98,7 +98,7 @@ this_named : (c : Class) → WellFormed c → (name : List ℕ) × (class_named 
 unfolding class_has_array is_array_class
 this_named c formed =
     let pool = c.constant_pool in
-    let none = none_holds (class_conditions c) (sym (class_is c) ∙ formed.everywhere places.Class) in
+    let none = none_holds (class_conditions c) (own_rule _ _ (sym (class_is c) ∙ formed.everywhere places.Class)) in
     let fit = this_fits c none.0 none.1.0 in
     let there = class_there c formed c.this_class fit.0 fit.1 in
     let plain : is_array_name there.name ≡ false =
@@ -204,7 +204,7 @@ pub formed_method : (c : Class) → WellFormed c → (n : ℕ) (m : Member) (bod
 unfolding member_has_bad member_has_other is_badly_described has
 formed_method c formed n m body here coded =
     let pool = c.constant_pool in
-    let none = none_holds (conditions_of_method c n m) (sym (method_is c n m here) ∙ formed.everywhere (places.Method n)) in
+    let none = none_holds (conditions_of_method c n m) (own_rule _ _ (sym (method_is c n m here) ∙ formed.everywhere (places.Method n))) in
     let class = this_named c formed in
     let texts = texts_there pool m none.0 none.1.0 in
     let fit = handlers_fit pool m.attributes body coded (right_not _ _ none.0) (right_not _ _ none.1.0) in

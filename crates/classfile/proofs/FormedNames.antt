@@ -20,7 +20,7 @@ use Rattle.classfile.specs.ClassForm.{class_has_bad, class_has_other}
 use Rattle.classfile.specs.MemberForm.{member_has_bad, member_has_other}
 use Rattle.classfile.specs.WellFormed.{WellFormed, conditions_of_field, conditions_of_method}
 use Rattle.classfile.specs.FormLaws.{FormedHasNames}
-use Rattle.classfile.proofs.Places.{entry_is, class_is, field_is, method_is}
+use Rattle.classfile.proofs.Places.{own_rule, entry_is, class_is, field_is, method_is}
 
 -- ---- conditions of which none holds
 
@@ -108,7 +108,8 @@ class_there c formed index bad other =
     let class = of_class pool index found.0 found.1 other in
     let there : entry_at pool index ≡ Ok (Class class.0) = found.1 ∙ ap Ok class.1 in
     let stands = entry_stands pool index (Class class.0) there in
-    let none : broken_rule (class_conditions pool class.0) ≡ None = sym (entry_is c stands.place (Class class.0) stands.here) ∙ formed.everywhere (places.Pool (stands.place + 1)) in
+    let none : broken_rule (class_conditions pool class.0) ≡ None =
+    own_rule _ _ (sym (entry_is c stands.place (Class class.0) stands.here) ∙ formed.everywhere (places.Pool (stands.place + 1))) in
     let fit = none_holds (class_conditions pool class.0) none in
     let text = text_found pool class.0 fit.0 fit.1.0 in
     record {
@@ -188,16 +189,16 @@ above_fits c bad other = (right_not _ _ (left_not _ _ (left_not _ _ bad)), right
 
 pub formed_has_names : FormedHasNames
 formed_has_names c formed =
-    let fit = class_fits c (sym (class_is c) ∙ formed.everywhere places.Class) in
+    let fit = class_fits c (own_rule _ _ (sym (class_is c) ∙ formed.everywhere places.Class)) in
     let this = this_fits c fit.0 fit.1 in
     let above = above_fits c fit.0 fit.1 in
     record {
       this = class_found c formed c.this_class this.0 this.1;
       above = λ some. class_found c formed c.super_class (not_zero c.constant_pool c.super_class some above.0) above.1;
       field = λ n m here.
-          let fit = field_fits c n m (sym (field_is c n m here) ∙ formed.everywhere (places.Field n)) in
+          let fit = field_fits c n m (own_rule _ _ (sym (field_is c n m here) ∙ formed.everywhere (places.Field n))) in
           named_found c.constant_pool m fit.0 fit.1;
       method = λ n m here.
-          let fit = method_fits c n m (sym (method_is c n m here) ∙ formed.everywhere (places.Method n)) in
+          let fit = method_fits c n m (own_rule _ _ (sym (method_is c n m here) ∙ formed.everywhere (places.Method n))) in
           named_found c.constant_pool m fit.0 fit.1;
     }

@@ -1,5 +1,5 @@
 -- In a list of conditions whose numbers rise the first that is broken has the least number.
-use Rattle.std.proofs.Common.{◌≡◌, ◌<◌, ◌≤◌, ℕ, zero, suc, Bool, true, false, nat_lt, cond, List, [], ◌∷◌, Option, Some, None, refl, sym, ap, ◌∙◌, arith, inl, inr}
+use Rattle.std.proofs.Common.{◌≡◌, ◌<◌, ◌≤◌, ℕ, zero, suc, Bool, true, false, nat_lt, cond, List, [], ◌∷◌, Option, Some, None, refl, sym, ap, ◌∙◌, arith, inl, inr, ◌⊎◌}
 use Rattle.std.proofs.lemmas.Bool.{and_parts, false≢true}
 use Rattle.std.proofs.lemmas.Bool.Decides.{nat_tests}
 use Rattle.std.proofs.lemmas.Option.{none-some}
@@ -10,9 +10,12 @@ use Rattle.classfile.specs.declared.form_fault.Place.{Place}
 use Rattle.classfile.specs.declared.form_fault.Place.TheVariants as places
 use Rattle.pool.specs.Entries.{Entry, Utf8, Integer, Float, Long, Double, Class, String, Fieldref, Methodref, InterfaceMethodref, NameAndType, MethodHandle, MethodType, Dynamic, InvokeDynamic, Unusable}
 use Rattle.classfile.specs.Values as values
-use Rattle.classfile.specs.Conditions.{Condition, rule_number, broken_rule, IsBroken, IsLeastBroken, rises_from}
+use Rattle.classfile.specs.Conditions.{Condition, rule_number, broken_rule, IsBroken, IsLeastBroken, HasNoBroken, rises_from}
 use Rattle.classfile.specs.ConstantForm.{constant_conditions}
-use Rattle.classfile.specs.WellFormed.{entry_conditions, conditions_of_field, conditions_of_method, conditions_at, fault_at}
+use Rattle.classfile.specs.release.Constants as constants
+use Rattle.classfile.specs.release.MemberRules as members
+use Rattle.classfile.specs.release.Places as release
+use Rattle.classfile.specs.WellFormed.{first_rule, entry_conditions, conditions_of_field, conditions_of_method, conditions_at, fault_at}
 use Rattle.classfile.specs.FormLaws.{LeastIsTold, NoneIsTold}
 
 above : (n : ℕ) (cs : List Condition) → rises_from n cs ≡ true → (rule : FormRule) → IsBroken cs rule → n < rule_number rule
@@ -124,10 +127,87 @@ rises c (places.Method n) = by_member (slice_get c.methods n)
     by_member None = refl
     by_member (Some m) = refl
 
+-- ---- the rules of a release rise too
+
+release_constants_rise : (c : values.Class) (e : Entry) → rises_from 0 (constants.constant_conditions c e) ≡ true
+unfolding constants.constant_conditions
+release_constants_rise c (NameAndType name descriptor) = refl
+release_constants_rise c (MethodHandle kind reference) = refl
+release_constants_rise c (Dynamic bootstrap named) = refl
+release_constants_rise c (InvokeDynamic bootstrap named) = refl
+release_constants_rise c _ = refl
+
+release_entries_rise : (c : values.Class) (index : ℕ) → rises_from 0 (release.entry_conditions c index) ≡ true
+release_entries_rise c zero = refl
+release_entries_rise c (suc k) = by_entry (slice_get c.constant_pool k)
+  where
+    by_entry : (o : Option Entry) → rises_from 0 (option_map_or (constants.constant_conditions c) o []) ≡ true
+    by_entry None = refl
+    by_entry (Some e) = release_constants_rise c e
+
+release_rises : (c : values.Class) (p : Place) → rises_from 0 (release.conditions_at c p) ≡ true
+unfolding release.conditions_at
+release_rises c (places.Pool index) = release_entries_rise c index
+release_rises c places.Class = refl
+release_rises c (places.Field n) = by_member (slice_get c.fields n)
+  where
+    by_member : (o : Option values.Member) → rises_from 0 (option_map_or (members.field_conditions c) o []) ≡ true
+    by_member None = refl
+    by_member (Some m) = refl
+release_rises c (places.Method n) = by_member (slice_get c.methods n)
+  where
+    by_member : (o : Option values.Member) → rises_from 0 (option_map_or (members.method_conditions c) o []) ≡ true
+    by_member None = refl
+    by_member (Some m) = refl
+
+-- ---- which of the two lists tells
+
+first_told : (own other : List Condition) (b : Bool) (rule : FormRule) → rises_from 0 own ≡ true → rises_from 0 other ≡ true
+    → first_rule (broken_rule own) (cond b (broken_rule other) None) ≡ Some rule
+    → IsLeastBroken own rule ⊎ (HasNoBroken own × (b ≡ true) × IsLeastBroken other rule)
+first_told own other b rule up also e = by (broken_rule own) refl b refl e
+  where
+    by : (o : Option FormRule) → broken_rule own ≡ o → (t : Bool) → b ≡ t → first_rule o (cond t (broken_rule other) None) ≡ Some rule
+        → IsLeastBroken own rule ⊎ (HasNoBroken own × (b ≡ true) × IsLeastBroken other rule)
+    by (Some r) is t holds e = inl (least_of 0 own up rule (is ∙ e))
+    by None is true holds e = inr (record { none = none_of own is }, holds, least_of 0 other also rule e)
+    by None is false holds e = absurd (none-some rule e)
+
+told_first : (own other : List Condition) (b : Bool) (rule : FormRule) → rises_from 0 own ≡ true → rises_from 0 other ≡ true
+    → IsLeastBroken own rule ⊎ (HasNoBroken own × (b ≡ true) × IsLeastBroken other rule)
+    → first_rule (broken_rule own) (cond b (broken_rule other) None) ≡ Some rule
+told_first own other b rule up also (inl l) =
+    ap (λ (o : Option FormRule). first_rule o (cond b (broken_rule other) None)) (told_of 0 own up rule l)
+told_first own other b rule up also (inr (none, holds, l)) =
+    ap (λ (o : Option FormRule). first_rule o (cond b (broken_rule other) None)) (none_told own none.none)
+    ∙ ap (λ (t : Bool). cond t (broken_rule other) None) holds ∙ told_of 0 other also rule l
+
+first_none : (own other : List Condition) (b : Bool) → first_rule (broken_rule own) (cond b (broken_rule other) None) ≡ None
+    → HasNoBroken own × (b ≡ true → HasNoBroken other)
+first_none own other b e = by (broken_rule own) refl e
+  where
+    by : (o : Option FormRule) → broken_rule own ≡ o → first_rule o (cond b (broken_rule other) None) ≡ None → HasNoBroken own × (b ≡ true → HasNoBroken other)
+    by (Some r) is e = absurd (none-some r (sym e))
+    by None is e = (
+      record { none = none_of own is },
+      λ holds. record { none = none_of other (sym (ap (λ (t : Bool). cond t (broken_rule other) None) holds) ∙ e) },
+    )
+
+none_first : (own other : List Condition) (b : Bool) → HasNoBroken own × (b ≡ true → HasNoBroken other)
+    → first_rule (broken_rule own) (cond b (broken_rule other) None) ≡ None
+none_first own other b h = ap (λ (o : Option FormRule). first_rule o (cond b (broken_rule other) None)) (none_told own h.0.none) ∙ by b h.1
+  where
+    by : (t : Bool) → (t ≡ true → HasNoBroken other) → cond t (broken_rule other) None ≡ None
+    by true more = none_told other (more refl).none
+    by false more = refl
+
 pub least_is_told : LeastIsTold
 unfolding fault_at
-least_is_told c p rule = (least_of 0 (conditions_at c p) (rises c p) rule, told_of 0 (conditions_at c p) (rises c p) rule)
+least_is_told c p rule = (
+  first_told (conditions_at c p) (release.conditions_at c p) c.release rule (rises c p) (release_rises c p),
+  told_first (conditions_at c p) (release.conditions_at c p) c.release rule (rises c p) (release_rises c p),
+)
 
 pub none_is_told : NoneIsTold
 unfolding fault_at
-none_is_told c p = (λ e. record { none = none_of (conditions_at c p) e }, λ h. none_told (conditions_at c p) h.none)
+none_is_told c p = (first_none (conditions_at c p) (release.conditions_at c p) c.release, none_first (conditions_at c p) (release.conditions_at c p) c.release)

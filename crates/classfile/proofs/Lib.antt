@@ -4,6 +4,7 @@ pub mod ClassMeasure
 pub mod ClassOutlines
 pub mod Classes
 pub mod Columns
+pub mod DebugRows
 pub mod DeclaredFieldLaws
 pub mod Encodings
 pub mod FewAttributes
@@ -19,6 +20,7 @@ pub mod Judged
 pub mod LeastRules
 pub mod Marks
 pub mod Measures
+pub mod MetLaws
 pub mod MethodLaws
 pub mod NamingLaws
 pub mod OutlineFaults
@@ -27,6 +29,7 @@ pub mod Outlines
 pub mod Places
 pub mod Receivers
 pub mod RowLaws
+pub mod RowSets
 pub mod Rows
 pub mod SearchedParts
 pub mod SeenLaws

@@ -1,11 +1,12 @@
 -- The rule that is reported at each place of a class file.
-use Rattle.std.proofs.Common.{◌≡◌, ◌<◌, ◌≤◌, ◌+◌, ℕ, zero, suc, Bool, List, [], ◌∷◌, ◌++◌, length, inl, inr, below_more, slice_index_or, take, map, Option, Some, None, refl, sym, ap, ◌∙◌, arith, add-one, option_map}
+use Rattle.std.proofs.Common.{◌≡◌, ◌<◌, ◌≤◌, ◌+◌, ℕ, zero, suc, Bool, true, false, cond, List, [], ◌∷◌, ◌++◌, length, inl, inr, below_more, slice_index_or, take, map, Option, Some, None, refl, sym, ap, ◌∙◌, arith, add-one, option_map}
 use Rattle.std.proofs.lemmas.List.{take_more}
 use Rattle.std.proofs.lemmas.Option.{slice_get-map, slice_get-get_or, slice_get_within, get_or_from_slice_get, slice_get_cases}
 use Rattle.std.specs.Option.{option_map_or}
 use Rattle.std.specs.Prelude.{slice_get}
 use Rattle.pool.specs.Entries.{Entry}
 use Rattle.classfile.specs.declared.form_fault.Place.{Place}
+use Rattle.classfile.specs.declared.form_fault.FormRule.{FormRule}
 use Rattle.classfile.specs.declared.form_fault.Place.TheVariants as places
 use Rattle.classfile.specs.Values.{Class, Member}
 use Rattle.classfile.specs.Conditions.{broken_rule}
@@ -13,44 +14,76 @@ use Rattle.classfile.specs.ConstantForm.{constant_conditions}
 use Rattle.classfile.specs.ClassForm.{class_conditions}
 use Rattle.classfile.specs.Flags.{has, INTERFACE}
 use Rattle.classfile.specs.MemberForm.{is_repeated, field_conditions, method_conditions}
-use Rattle.classfile.specs.WellFormed.{entry_conditions, conditions_of_field, conditions_of_method, conditions_at, fault_at}
+use Rattle.classfile.specs.private.Told as told
+use Rattle.classfile.specs.private.Told.{entry_told, class_told}
+use Rattle.classfile.specs.release.Constants as constants
+use Rattle.classfile.specs.release.MemberRules as members
+use Rattle.classfile.specs.release.Places as release
+use Rattle.classfile.specs.release.Places.{rule_of_release}
+use Rattle.classfile.specs.WellFormed.{first_rule, entry_conditions, conditions_of_field, conditions_of_method, conditions_at, fault_at}
 
-pub entry_is : (c : Class) (k : ℕ) (e : Entry) → slice_get c.constant_pool k ≡ Some e
-    → fault_at c (places.Pool (k + 1)) ≡ broken_rule (constant_conditions c.major_version c.constant_pool e)
-unfolding fault_at conditions_at
+none_of_release : (c : Class) → rule_of_release c [] ≡ None
+none_of_release c = by c.release
+  where
+    by : (b : Bool) → cond b (broken_rule []) None ≡ None
+    by true = refl
+    by false = refl
+
+-- where no rule is told, none of every class is broken
+pub own_rule : (own other : Option FormRule) → first_rule own other ≡ None → own ≡ None
+own_rule None other e = refl
+own_rule (Some rule) other e = e
+
+pub entry_is : (c : Class) (k : ℕ) (e : Entry) → slice_get c.constant_pool k ≡ Some e → fault_at c (places.Pool (k + 1)) ≡ entry_told c e
+unfolding fault_at conditions_at release.conditions_at
 entry_is c k e here =
-    ap (λ (i : ℕ). broken_rule (entry_conditions c i)) (add-one k)
-    ∙ ap (λ (o : Option Entry). broken_rule (option_map_or (constant_conditions c.major_version c.constant_pool) o [])) here
+    ap (λ (i : ℕ). first_rule (broken_rule (entry_conditions c i)) (rule_of_release c (release.entry_conditions c i))) (add-one k)
+    ∙ ap (λ (o : Option Entry). first_rule (broken_rule (option_map_or (constant_conditions c.major_version c.constant_pool) o []))
+    (rule_of_release c (option_map_or (constants.constant_conditions c) o []))) here
 
 pub entry_past : (c : Class) (k : ℕ) → slice_get c.constant_pool k ≡ None → fault_at c (places.Pool (k + 1)) ≡ None
-unfolding fault_at conditions_at
+unfolding fault_at conditions_at release.conditions_at
 entry_past c k here =
-    ap (λ (i : ℕ). broken_rule (entry_conditions c i)) (add-one k)
-    ∙ ap (λ (o : Option Entry). broken_rule (option_map_or (constant_conditions c.major_version c.constant_pool) o [])) here
+    ap (λ (i : ℕ). first_rule (broken_rule (entry_conditions c i)) (rule_of_release c (release.entry_conditions c i))) (add-one k)
+    ∙ ap (λ (o : Option Entry). first_rule (broken_rule (option_map_or (constant_conditions c.major_version c.constant_pool) o []))
+    (rule_of_release c (option_map_or (constants.constant_conditions c) o []))) here
+    ∙ none_of_release c
 
 pub no_entry : (c : Class) → fault_at c (places.Pool 0) ≡ None
-unfolding fault_at conditions_at
-no_entry c = refl
+unfolding fault_at conditions_at release.conditions_at
+no_entry c = none_of_release c
 
-pub class_is : (c : Class) → fault_at c places.Class ≡ broken_rule (class_conditions c)
-unfolding fault_at conditions_at
+pub class_is : (c : Class) → fault_at c places.Class ≡ class_told c
+unfolding fault_at conditions_at release.conditions_at
 class_is c = refl
 
-pub field_is : (c : Class) (n : ℕ) (m : Member) → slice_get c.fields n ≡ Some m → fault_at c (places.Field n) ≡ broken_rule (conditions_of_field c n m)
-unfolding fault_at conditions_at
-field_is c n m here = ap (λ (o : Option Member). broken_rule (option_map_or (conditions_of_field c n) o [])) here
+pub field_is : (c : Class) (n : ℕ) (m : Member) → slice_get c.fields n ≡ Some m
+    → fault_at c (places.Field n) ≡ told.field_told c (is_repeated c.constant_pool (take n c.fields) m) m
+unfolding fault_at conditions_at release.conditions_at
+field_is c n m here =
+    ap (λ (o : Option Member). first_rule (broken_rule (option_map_or (conditions_of_field c n) o []))
+    (rule_of_release c (option_map_or (members.field_conditions c) o []))) here
 
 pub field_past : (c : Class) (n : ℕ) → slice_get c.fields n ≡ None → fault_at c (places.Field n) ≡ None
-unfolding fault_at conditions_at
-field_past c n here = ap (λ (o : Option Member). broken_rule (option_map_or (conditions_of_field c n) o [])) here
+unfolding fault_at conditions_at release.conditions_at
+field_past c n here =
+    ap (λ (o : Option Member). first_rule (broken_rule (option_map_or (conditions_of_field c n) o []))
+    (rule_of_release c (option_map_or (members.field_conditions c) o []))) here
+    ∙ none_of_release c
 
-pub method_is : (c : Class) (n : ℕ) (m : Member) → slice_get c.methods n ≡ Some m → fault_at c (places.Method n) ≡ broken_rule (conditions_of_method c n m)
-unfolding fault_at conditions_at
-method_is c n m here = ap (λ (o : Option Member). broken_rule (option_map_or (conditions_of_method c n) o [])) here
+pub method_is : (c : Class) (n : ℕ) (m : Member) → slice_get c.methods n ≡ Some m
+    → fault_at c (places.Method n) ≡ told.method_told c (is_repeated c.constant_pool (take n c.methods) m) m
+unfolding fault_at conditions_at release.conditions_at
+method_is c n m here =
+    ap (λ (o : Option Member). first_rule (broken_rule (option_map_or (conditions_of_method c n) o []))
+    (rule_of_release c (option_map_or (members.method_conditions c) o []))) here
 
 pub method_past : (c : Class) (n : ℕ) → slice_get c.methods n ≡ None → fault_at c (places.Method n) ≡ None
-unfolding fault_at conditions_at
-method_past c n here = ap (λ (o : Option Member). broken_rule (option_map_or (conditions_of_method c n) o [])) here
+unfolding fault_at conditions_at release.conditions_at
+method_past c n here =
+    ap (λ (o : Option Member). first_rule (broken_rule (option_map_or (conditions_of_method c n) o []))
+    (rule_of_release c (option_map_or (members.method_conditions c) o []))) here
+    ∙ none_of_release c
 
 -- ---- tables of the program
 
@@ -84,12 +117,9 @@ all_entries c each (suc k) = ap (λ (i : ℕ). fault_at c (places.Pool i)) (sym 
 -- ---- members
 
 pub field_told : (c : Class) (n : ℕ) (m : Member) (repeated : Bool) → slice_get c.fields n ≡ Some m → repeated ≡ is_repeated c.constant_pool (take n c.fields) m
-    → fault_at c (places.Field n) ≡ broken_rule (field_conditions c.constant_pool repeated m)
-field_told c n m repeated here same = field_is c n m here ∙ ap (λ (b : Bool). broken_rule (field_conditions c.constant_pool b m)) (sym same)
+    → fault_at c (places.Field n) ≡ told.field_told c repeated m
+field_told c n m repeated here same = field_is c n m here ∙ ap (λ (b : Bool). told.field_told c b m) (sym same)
 
-pub method_told : (c : Class) (n : ℕ) (m : Member) (interface repeated : Bool) → slice_get c.methods n ≡ Some m → interface ≡ has c.access_flags INTERFACE
-    → repeated ≡ is_repeated c.constant_pool (take n c.methods) m → fault_at c (places.Method n) ≡ broken_rule (method_conditions c.constant_pool interface repeated m)
-method_told c n m interface repeated here flag same =
-    method_is c n m here
-    ∙ ap (λ (b : Bool). broken_rule (method_conditions c.constant_pool b (is_repeated c.constant_pool (take n c.methods) m) m)) (sym flag)
-    ∙ ap (λ (b : Bool). broken_rule (method_conditions c.constant_pool interface b m)) (sym same)
+pub method_told : (c : Class) (n : ℕ) (m : Member) (repeated : Bool) → slice_get c.methods n ≡ Some m → repeated ≡ is_repeated c.constant_pool (take n c.methods) m
+    → fault_at c (places.Method n) ≡ told.method_told c repeated m
+method_told c n m repeated here same = method_is c n m here ∙ ap (λ (b : Bool). told.method_told c b m) (sym same)

@@ -1,6 +1,6 @@
 -- The bootstrap methods of a class (JVMS 4.7.23), to which its Dynamic and InvokeDynamic constants lead (4.4.10).
-use Rattle.std.specs.Prelude.{◌≡◌, ℕ, Bool, true, false, ◌&&◌, nat_eq, if◌then◌else◌, List, [], ◌∷◌, ◌++◌, length, map, slice_get, Option, Some, None, option_to_list, Result, Ok, Err, codes}
-use Rattle.std.specs.List.{list_all}
+use Rattle.std.specs.Prelude.{◌≡◌, ℕ, Bool, true, false, not, ◌&&◌, nat_eq, nat_le, if◌then◌else◌, List, [], ◌∷◌, ◌++◌, length, map, slice_get, Option, Some, None, option_to_list, Result, Ok, Err, codes}
+use Rattle.std.specs.List.{list_all, list_any}
 use Rattle.std.specs.Option.{option_map_or}
 use Rattle.layout.specs.Format.{Format, done, andthen, number, reads}
 use Rattle.layout.specs.Place.{Place}
@@ -98,3 +98,18 @@ is_sound pool b = on_found is_handle (entry_at pool b.handle) && are_arguments p
 -- among the bootstrap methods there is one of this number, which counts from 0, and it may be used
 unfoldable pub has_bootstrap : List Entry → List BootstrapMethod → ℕ → Bool
 has_bootstrap pool methods number = option_map_or (is_sound pool) (slice_get methods number) false
+
+-- ---- whole tables
+
+-- bytes stand behind the entries, or one of these may not be used; or the body is not laid out so
+abbrev pub is_bad_reading : List Entry → Result (List BootstrapMethod × Place) ReadFault → Bool
+is_bad_reading pool (Ok x) = not (nat_eq (length x.1.rest) 0 && list_all (is_sound pool) x.0)
+is_bad_reading pool (Err e) = true
+
+unfoldable pub is_bad_body : List Entry → List ℕ → Bool
+is_bad_body pool body = is_bad_reading pool (reads bootstrap_methods 0 body)
+
+-- class files have the attribute from major version 51 on
+unfoldable pub has_bad_bootstraps : values.Class → Bool
+has_bad_bootstraps c =
+    nat_le 51 c.major_version && list_any (is_bad_body c.constant_pool) (bodies_of c.constant_pool c.attributes)

@@ -1,6 +1,6 @@
 -- The layout of class files (JVMS 4.1, 4.5 to 4.7): which bytes spell which class, and which fault comes first.
 -- Each layout is the parts that stand one after the other, in the order of the file.
-use Rattle.std.specs.Prelude.{◌≡◌, ℕ, ◌-◌, ◌≤◌, ◌<◌, List, Option, Some, None, length, nat_eq, if◌then◌else◌, ◌⊎◌}
+use Rattle.std.specs.Prelude.{◌≡◌, ℕ, Bool, ◌-◌, ◌≤◌, ◌<◌, List, Option, Some, None, length, nat_eq, if◌then◌else◌, ◌⊎◌}
 use Rattle.layout.specs.Format.{Format, Spells, done, part, refuse, andthen, number, times, inside}
 use Rattle.layout.specs.Whole.{WholeFault}
 use Rattle.layout.specs.declared.limits.TheConstants.{MAX_CLASS_BYTES}
@@ -10,7 +10,7 @@ use Rattle.pool.specs.Entries.{Entry, pool}
 use Rattle.classfile.specs.declared.location.Location.{Location}
 use Rattle.classfile.specs.declared.location.Location.TheVariants as location
 use Rattle.classfile.specs.declared.versions.Versions.{Versions}
-use Rattle.classfile.specs.Versions.{is_version}
+use Rattle.classfile.specs.Versions.{is_version, is_release}
 use Rattle.classfile.specs.Locations.{is_code, is_stack_map, is_record}
 use Rattle.classfile.specs.Layouts.{AttributeLayout, has_layout, layout_at}
 use Rattle.classfile.specs.Values.{AttributeOf, of_parts, of_numbers, raw, Handler, Nested, CodeBody, Attribute, Member, Component, ClassAttribute, Class}
@@ -126,15 +126,20 @@ version versions = andthen (number 4) (λ magic. if nat_eq magic 0xCAFEBABE
     else refuse (λ at. BadVersion major minor)))
     else refuse (λ at. BadMagic))
 
+-- of no bytes: the versions say whether the class is read as a release has it
+unfoldable pub manner : Versions → Format Bool
+manner versions = done (is_release versions)
+
 unfoldable pub interfaces : Format (List ℕ)
 interfaces = table (number 2)
 
 unfoldable pub class : Versions → Format Class
-class versions = andthen (version versions) (λ version. andthen pool (λ pool. andthen three (λ head. andthen interfaces (λ interfaces.
+class versions = andthen (version versions) (λ version. andthen (manner versions) (λ release. andthen pool (λ pool. andthen three (λ head. andthen interfaces (λ interfaces.
     andthen (members pool location.Field)
     (λ fields. andthen (members pool location.Method)
     (λ methods. andthen (class_attributes pool (location.Class version.1)) (λ attributes.
     done (record {
+      release = release;
       minor_version = version.0;
       major_version = version.1;
       constant_pool = pool;
@@ -145,7 +150,7 @@ class versions = andthen (version versions) (λ version. andthen pool (λ pool. 
       fields = fields;
       methods = methods;
       attributes = attributes;
-    }))))))))
+    })))))))))
 
 -- All the bytes, at most 16,777,216 of them, are a class file of one of these versions, and spell this class.
 pub record IsClass (versions : Versions) (bytes : List ℕ) (c : Class) : Type 0 where

@@ -74,7 +74,7 @@ class_conditions c =
     (BadIndex, class_has_bad c)
     ∷ (WrongKind, class_has_other c)
     ∷ (BadName, class_has_array c)
-    ∷ (BadFlags, are_bad_class_flags c.access_flags)
+    ∷ (BadFlags, are_bad_class_flags c.major_version c.access_flags)
     ∷ (BadSuper, has_bad_super c)
     ∷ (AttributeTwice, class_attributes_have_twice (location.Class c.major_version) c.attributes)
     ∷ []

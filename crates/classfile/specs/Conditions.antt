@@ -2,7 +2,7 @@
 -- told.
 use Rattle.std.specs.Prelude.{◌≡◌, ℕ, ◌≤◌, ◌⊎◌, Bool, true, ◌&&◌, nat_lt, if◌then◌else◌, List, [], ◌∷◌, Option, Some, None}
 use Rattle.classfile.specs.declared.form_fault.FormRule.{FormRule}
-use Rattle.classfile.specs.declared.form_fault.FormRule.TheVariants.{BadIndex, WrongKind, BadName, BadDescriptor, BadFlags, Twice, CodeMissing, CodeNotAllowed, BadSuper, BadCodeLength, AttributeTwice}
+use Rattle.classfile.specs.declared.form_fault.FormRule.TheVariants.{BadIndex, WrongKind, BadName, BadDescriptor, BadFlags, Twice, CodeMissing, CodeNotAllowed, BadSuper, BadCodeLength, AttributeTwice, BadDebugTable, BadBootstrap}
 
 abbrev pub rule_number : FormRule → ℕ
 rule_number BadIndex = 20
@@ -16,6 +16,8 @@ rule_number CodeNotAllowed = 27
 rule_number BadSuper = 28
 rule_number BadCodeLength = 29
 rule_number AttributeTwice = 30
+rule_number BadDebugTable = 87
+rule_number BadBootstrap = 90
 
 -- a rule, and whether it is broken
 abbrev pub Condition : Type 0

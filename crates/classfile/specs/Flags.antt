@@ -1,5 +1,5 @@
 -- Which access flags may stand together (JVMS 4.1, table 4.1-B; 4.5, table 4.5-A; 4.6, table 4.6-A).
-use Rattle.std.specs.Prelude.{ℕ, ◌+◌, Bool, not, ◌&&◌, ◌||◌, nat_eq, bit_and, if◌then◌else◌, List, [], ◌∷◌}
+use Rattle.std.specs.Prelude.{ℕ, ◌+◌, Bool, not, ◌&&◌, ◌||◌, nat_eq, nat_le, nat_lt, bit_and, if◌then◌else◌, List, [], ◌∷◌}
 use Rattle.std.specs.List.{list_any}
 use Rattle.classfile.specs.declared.flags.FlagRow.{FlagRow}
 
@@ -62,12 +62,12 @@ has flags flag = not (nat_eq (bit_and flags flag) 0)
 abbrev pub row : (set clear excluded needed : ℕ) → FlagRow
 row set clear excluded needed = record { set = set; clear = clear; excluded = excluded; needed = needed }
 
--- no class is a module; an interface is abstract, and not final, special in its calls or an enum; another class is no
--- annotation, and not both final and abstract
-abbrev pub class_flags : List FlagRow
-class_flags =
+-- No class is a module; an interface is not final, special in its calls or an enum; another class is no annotation, and
+-- not both final and abstract. From major version 50 on an interface is abstract; older ones are so without the flag.
+abbrev pub class_flags : ℕ → List FlagRow
+class_flags major =
     row 0 0 MODULE 0
-    ∷ row INTERFACE 0 (FINAL + SUPER + ENUM) ABSTRACT
+    ∷ row INTERFACE 0 (FINAL + SUPER + ENUM) (if nat_lt major 50 then 0 else ABSTRACT)
     ∷ row 0 INTERFACE ANNOTATION 0
     ∷ row FINAL INTERFACE ABSTRACT 0
     ∷ []
@@ -101,11 +101,52 @@ abbrev pub breaks : ℕ → FlagRow → Bool
 breaks flags r = (has_all flags r.set && not (has_some flags r.clear))
     && (has_some flags r.excluded || not (has_all flags r.needed))
 
-unfoldable pub are_bad_class_flags : ℕ → Bool
-are_bad_class_flags flags = list_any (breaks flags) class_flags
+unfoldable pub are_bad_class_flags : ℕ → ℕ → Bool
+are_bad_class_flags major flags = list_any (breaks flags) (class_flags major)
 
 unfoldable pub are_bad_field_flags : ℕ → Bool
 are_bad_field_flags flags = list_any (breaks flags) field_flags
 
 unfoldable pub are_bad_method_flags : Bool → Bool → ℕ → Bool
 are_bad_method_flags init clinit flags = list_any (breaks flags) (method_flags init clinit)
+
+-- ---- of a class that is read as a release has it
+
+-- of a field
+abbrev pub TRANSIENT : ℕ
+TRANSIENT = 0x0080
+
+-- of a method
+abbrev pub STRICT : ℕ
+STRICT = 0x0800
+
+-- a field of an interface is public, static and final, and may be synthetic (4.5)
+abbrev pub interface_field_flags : List FlagRow
+interface_field_flags =
+    row 0 0 (PRIVATE + PROTECTED + VOLATILE + TRANSIENT + ENUM) (PUBLIC + STATIC + FINAL) ∷ []
+
+-- a method of an interface is none of these (4.6)
+abbrev pub interface_method : FlagRow
+interface_method = row 0 0 (PROTECTED + FINAL + SYNCHRONIZED + NATIVE) 0
+
+-- below major version 52 it is public and abstract, and from then on either public or private (4.6)
+abbrev pub interface_method_flags : ℕ → List FlagRow
+interface_method_flags major =
+    if nat_lt major 52 then interface_method ∷ row 0 0 0 (PUBLIC + ABSTRACT) ∷ []
+    else interface_method ∷ row 0 PUBLIC 0 PRIVATE ∷ []
+
+-- in these versions what is abstract is not strict (4.6)
+abbrev pub has_strict : ℕ → Bool
+has_strict major = nat_le 46 major && nat_le major 60
+
+abbrev pub strict_flags : List FlagRow
+strict_flags = row ABSTRACT 0 STRICT 0 ∷ []
+
+unfoldable pub are_bad_interface_field : ℕ → Bool
+are_bad_interface_field flags = list_any (breaks flags) interface_field_flags
+
+unfoldable pub are_bad_interface_method : ℕ → ℕ → Bool
+are_bad_interface_method major flags = list_any (breaks flags) (interface_method_flags major)
+
+unfoldable pub are_badly_strict : ℕ → ℕ → Bool
+are_badly_strict major flags = has_strict major && list_any (breaks flags) strict_flags

@@ -1,7 +1,7 @@
 -- Laws that follow from the definition of well-formed classes alone: which rule is reported of a place, that a class is
 -- well formed or has one first fault, that the tests of names and descriptors are their forms, and that what a class
 -- names is there.
-use Rattle.std.specs.Prelude.{◌≡◌, ◌≢◌, ◌↔◌, ◌≤◌, ◌⊎◌, ℕ, Bool, List, slice_get, Some, None, Ok, IsTrue}
+use Rattle.std.specs.Prelude.{◌≡◌, ◌≢◌, ◌↔◌, ◌≤◌, ◌⊎◌, ℕ, Bool, true, List, slice_get, Some, None, Ok, IsTrue}
 use Rattle.names.specs.Names.{IsUnqualifiedName, IsMethodName, IsClassName}
 use Rattle.names.specs.Descriptors.{FieldDescriptor, MethodDescriptor, SpellsField, SpellsMethod, dimensions, method_width, AreWithinDimensions}
 use Rattle.pool.specs.Lookups.{class_name_at, Named, named}
@@ -10,16 +10,21 @@ use Rattle.classfile.specs.declared.form_fault.Place.{Place}
 use Rattle.classfile.specs.Values.{Class, Member}
 use Rattle.classfile.specs.Conditions.{IsLeastBroken, HasNoBroken}
 use Rattle.classfile.specs.Naming.{is_unqualified_name, is_method_name, is_class_name, is_field_descriptor, is_method_descriptor, is_void_descriptor}
+use Rattle.classfile.specs.release.Places as release
 use Rattle.classfile.specs.WellFormed.{conditions_at, fault_at, WellFormed, IsFirstFault}
 
--- of a place the broken rule of the least number is told
+-- where a rule of every class is broken, that of the least number is told; otherwise, of a class that is read as a
+-- release has it, the rule of the release with the least number
 abbrev pub LeastIsTold : Type 0
 LeastIsTold = (c : Class) (p : Place) (rule : FormRule)
-    → (fault_at c p ≡ Some rule) ↔ IsLeastBroken (conditions_at c p) rule
+    → (fault_at c p ≡ Some rule) ↔ (IsLeastBroken (conditions_at c p) rule
+    ⊎ (HasNoBroken (conditions_at c p) × (c.release ≡ true) × IsLeastBroken (release.conditions_at c p) rule))
 
 -- and none only where none is broken
 abbrev pub NoneIsTold : Type 0
-NoneIsTold = (c : Class) (p : Place) → (fault_at c p ≡ None) ↔ HasNoBroken (conditions_at c p)
+NoneIsTold = (c : Class) (p : Place)
+    → (fault_at c p ≡ None)
+    ↔ (HasNoBroken (conditions_at c p) × (c.release ≡ true → HasNoBroken (release.conditions_at c p)))
 
 -- a class is well formed or has a first fault
 abbrev pub FormedOrFaulty : Type 0

@@ -27,6 +27,7 @@ pub mod Numbers
 pub mod Outline
 pub mod OutlineLaws
 pub mod RecordForm
+pub mod release
 pub mod Seen
 pub mod Sizes
 pub mod TextNumbers

@@ -1,6 +1,6 @@
 -- The values that a class file holds (JVMS 4.1, 4.5 to 4.7): its numbers and tables in the order of the file.
 -- Names, descriptors and other constants stand as their indices into the constant pool.
-use Rattle.std.specs.Prelude.{ℕ, List}
+use Rattle.std.specs.Prelude.{ℕ, Bool, List}
 use Rattle.pool.specs.Entries.{Entry}
 use Rattle.classfile.specs.Numbers.{Numbers}
 
@@ -56,8 +56,9 @@ pub record Component : Type 0 where
 abbrev pub ClassAttribute : Type 0
 ClassAttribute = AttributeOf (List Component)
 
--- a class file (4.1)
+-- A class file (4.1), and whether it is read as a release has it, with all rules of form.
 pub record Class : Type 0 where
+  pub release : Bool
   pub minor_version : ℕ
   pub major_version : ℕ
   pub constant_pool : List Entry

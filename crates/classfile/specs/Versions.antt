@@ -1,5 +1,5 @@
 -- The versions that a class file may have (JVMS 4.1, table 4.1-A).
-use Rattle.std.specs.Prelude.{ℕ, ◌+◌, Bool, ◌&&◌, ◌||◌, nat_le, nat_eq}
+use Rattle.std.specs.Prelude.{ℕ, ◌+◌, Bool, true, false, ◌&&◌, ◌||◌, nat_le, nat_eq}
 use Rattle.classfile.specs.declared.profile.Profile.{Profile}
 use Rattle.classfile.specs.declared.profile.Profile.TheVariants as profiles
 use Rattle.classfile.specs.declared.versions.Versions.{Versions}
@@ -14,6 +14,11 @@ is_between least greatest minor major =
 abbrev pub is_version : Versions → ℕ → ℕ → Bool
 is_version Java7To17 minor major = is_between 51 61 minor major
 is_version (Release least number) minor major = is_between least (number + 44) minor major
+
+-- all rules of form are judged that a release has
+abbrev pub is_release : Versions → Bool
+is_release Java7To17 = false
+is_release (Release least number) = true
 
 -- a class is judged by its stack maps, which it has from version 50 on
 abbrev pub judged_versions : Profile → Versions

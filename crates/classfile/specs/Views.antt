@@ -68,6 +68,7 @@ class_attribute_view (class_attributes.Raw name body) = raw name body.now
 
 abbrev pub class_view : ClassFile → values.Class
 class_view c = record {
+  release = c.release;
   minor_version = c.minor_version;
   major_version = c.major_version;
   constant_pool = c.constant_pool;

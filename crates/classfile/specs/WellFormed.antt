@@ -12,6 +12,8 @@ use Rattle.classfile.specs.Conditions.{Condition, rule_number, broken_rule}
 use Rattle.classfile.specs.ConstantForm.{constant_conditions}
 use Rattle.classfile.specs.Flags.{has, INTERFACE}
 use Rattle.classfile.specs.ClassForm.{class_conditions}
+use Rattle.classfile.specs.release.Places as release
+use Rattle.classfile.specs.release.Places.{rule_of_release}
 use Rattle.classfile.specs.MemberForm.{is_repeated, field_conditions, method_conditions}
 
 -- what may be wrong with the entry at an index, which counts from 1
@@ -35,9 +37,15 @@ conditions_at c places.Class = class_conditions c
 conditions_at c (places.Field n) = option_map_or (conditions_of_field c n) (slice_get c.fields n) []
 conditions_at c (places.Method n) = option_map_or (conditions_of_method c n) (slice_get c.methods n) []
 
--- the rule that is reported at a place
+-- the first of two rules that there is
+abbrev pub first_rule : Option FormRule → Option FormRule → Option FormRule
+first_rule (Some rule) other = Some rule
+first_rule None other = other
+
+-- The rule that is reported at a place. One of a release is told where no other is broken there.
 unfoldable pub fault_at : Class → Place → Option FormRule
-fault_at c place = broken_rule (conditions_at c place)
+fault_at c place =
+    first_rule (broken_rule (conditions_at c place)) (rule_of_release c (release.conditions_at c place))
 
 -- the pool goes before the class, the class before its fields, and they before its methods
 abbrev pub IsBefore : Place → Place → Type 0

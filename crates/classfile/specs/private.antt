@@ -4,8 +4,10 @@ pub mod AttributeKinds
 pub mod DuplicateFinder
 pub mod IndexColumns
 pub mod MemberTexts
+pub mod MetRows
 pub mod NamedAt
 pub mod NumbersLaws
 pub mod Pieces
 pub mod Searching
 pub mod TextForms
+pub mod Told

@@ -3,7 +3,8 @@ ghost use Rattle.std.specs.Prelude.{◌≡◌, map, option_map, IfOk};
 ghost use Rattle.layout.specs.Faults.{GoesOn};
 ghost use Rattle.pool.specs.Lookups.{entry_at};
 ghost use Rattle.pool.specs.Views.{view};
-ghost use Rattle.classfile.specs.Bootstraps.{arguments, entries_of, body_of, bodies_of, only, is_handle, is_loadable, is_argument, are_arguments, is_sound, bootstraps_of, has_bootstrap};
+ghost use Rattle.classfile.specs.Bootstraps.{arguments, entries_of, body_of, bodies_of, only, is_handle, is_loadable, is_argument, are_arguments, is_sound, bootstraps_of, has_bootstrap, is_bad_body, has_bad_bootstraps};
+ghost use Rattle.std.specs.List.{list_all, list_any};
 ghost use Rattle.classfile.specs.BootstrapViews.{bootstrap_view, AreSound};
 ghost use Rattle.classfile.specs.Indices.{on_found};
 ghost use Rattle.classfile.specs.Views.{class_attribute_view, class_view};
@@ -118,6 +119,13 @@ fn is_sound(pool: &Pool<'_>, method: &BootstrapMethod) -> bool
     is_handle(pool, method.handle) && are_arguments(pool, &method.arguments)
 }
 
+/// Whether each of the entries may be used.
+fn are_sound(pool: &Pool<'_>, methods: &[BootstrapMethod]) -> bool
+    ensures { result ≡ list_all (is_sound pool.now) (map bootstrap_view methods.now) }
+{
+    methods.iter().all(|method| is_sound(pool, method))
+}
+
 /// The entries of a body; none where it is not laid out so.
 #[tactic(auto, unfolding(crate::specs::Bootstraps::bootstrap_methods))]
 fn entries_of<'a>(
@@ -145,6 +153,51 @@ fn body_of<'a>(pool: &Pool<'_>, attribute: &ClassAttribute<'a>) -> Option<&'a [u
         }
         _ => None,
     }
+}
+
+/// Whether the body is not laid out as the attribute's is, or one of its entries may not be used.
+#[tactic(auto, unfolding(crate::specs::Bootstraps::bootstrap_methods, crate::specs::Bootstraps::is_bad_body))]
+fn is_bad_body<'a>(alloc: Global, pool: &Pool<'a>, body: &'a [u8]) -> Result<bool, AllocError>
+    ensures { IfOk result (λ r. r ≡ is_bad_body pool.now body.entry.now) }
+{
+    let mut cursor = Cursor::new(body);
+    match take_table::<BootstrapMethod>(alloc, pool, Location::Code, &mut cursor) {
+        Ok(methods) => Ok(!(cursor.rest().is_empty() && are_sound(pool, &methods))),
+        Err(ReadFault::OutOfMemory) => Err(AllocError),
+        Err(_) => Ok(true),
+    }
+}
+
+/// Whether a BootstrapMethods attribute among these is not laid out as 4.7.23 says, or has an entry that may not be
+/// used.
+fn one_is_bad<'a>(
+    alloc: Global,
+    pool: &Pool<'a>,
+    attributes: &[ClassAttribute<'a>],
+) -> Result<bool, AllocError>
+    ensures { IfOk result (λ r. r
+        ≡ list_any (is_bad_body pool.now) (bodies_of pool.now (map class_attribute_view attributes.now))) }
+{
+    for attribute in attributes {
+        if let Some(body) = body_of(pool, attribute) {
+            if is_bad_body(alloc, pool, body)? {
+                return Ok(true);
+            }
+        }
+    }
+    Ok(false)
+}
+
+/// Whether such an attribute stands in the class, which has a major version from 51 on.
+#[tactic(auto, unfolding(crate::specs::Bootstraps::has_bad_bootstraps))]
+pub fn has_bad_bootstraps(alloc: Global, class: &ClassFile<'_>) -> Result<bool, AllocError>
+    ensures { IfOk result (λ r. r ≡ has_bad_bootstraps (class_view class.now)) }
+{
+    if class.major_version < 51 {
+        return Ok(false);
+    }
+    let bad = one_is_bad(alloc, &class.constant_pool, &class.attributes)?;
+    Ok(bad)
 }
 
 /// The body of the only BootstrapMethods attribute.

@@ -2,8 +2,8 @@
 ghost use Rattle.std.specs.Prelude.{◌≡◌, map};
 ghost use Rattle.layout.specs.Faults.{GoesOn};
 ghost use Rattle.layout.specs.Pieces.{Goes, field, marked};
-ghost use Rattle.classfile.specs.ClassFile.{interfaces, members, class_attributes, version, class};
-ghost use Rattle.classfile.specs.private.Pieces.{version_pieces, tables_pieces, behind_pool_pieces, pieces_with, class_pieces};
+ghost use Rattle.classfile.specs.ClassFile.{interfaces, members, class_attributes, version, manner, class};
+ghost use Rattle.classfile.specs.private.Pieces.{version_pieces, manner_pieces, tables_pieces, behind_pool_pieces, pieces_with, class_pieces};
 ghost use Rattle.classfile.specs.Views.{member_view, class_attribute_view, class_view};
 
 use crate::class_attribute::ClassAttribute;
@@ -18,6 +18,8 @@ use std::alloc::Global;
 /// A class file. Texts, the bodies of attributes and code are parts of the bytes that it was read from.
 #[derive(Drop)]
 pub struct ClassFile<'a> {
+    /// Whether it was read as one of the versions of a release, and all rules of form are judged.
+    pub release: bool,
     /// The minor_version item.
     pub minor_version: u16,
     /// The major_version item.
@@ -88,6 +90,14 @@ fn version(versions: Versions, cursor: &mut Cursor<'_>) -> Result<(u16, u16), Re
     }
 }
 
+/// Whether a class of these versions is read as a release has it, for which no byte is taken.
+#[tactic(auto, unfolding(crate::specs::ClassFile::manner))]
+fn manner(versions: Versions, cursor: &mut Cursor<'_>) -> Result<bool, ReadFault>
+    ensures { GoesOn (manner versions) (λ x. x) cursor.old cursor.new result }
+{
+    Ok(versions.is_release())
+}
+
 #[tactic(auto, unfolding(crate::specs::ClassFile::interfaces))]
 fn interfaces<'a>(
     alloc: Global,
@@ -134,6 +144,7 @@ pub fn class<'a>(
     ensures { GoesOn (class versions) class_view cursor.old cursor.new result }
 {
     let (minor_version, major_version) = version(versions, cursor)?;
+    let release = manner(versions, cursor)?;
     let constant_pool = read_pool(alloc, cursor)?;
     let (access_flags, this_class, super_class) = three(cursor)?;
     let interfaces = interfaces(alloc, &constant_pool, cursor)?;
@@ -144,6 +155,7 @@ pub fn class<'a>(
     };
     let attributes = class_attributes(alloc, &constant_pool, location, cursor)?;
     Ok(ClassFile {
+        release,
         minor_version,
         major_version,
         constant_pool,
@@ -178,6 +190,16 @@ fn put_version(
     out.put_u4(0xCAFE_BABE)?;
     out.put_u2(minor)?;
     put_marked(out, versions.take(minor, major), major)
+}
+
+/// Nothing, where the class is read as these versions are; and otherwise that it has no spelling.
+fn put_manner(out: &mut Output, versions: Versions, release: bool) -> Result<(), WriteFault>
+    ensures { Goes (manner_pieces versions release) out.old out.new result }
+{
+    if versions.is_release() != release {
+        out.put_nothing();
+    }
+    Ok(())
 }
 
 #[tactic(auto, using(layout::specs::PieceLaws::writes_append))]
@@ -215,6 +237,7 @@ fn put_all(
     ensures { Goes (pieces_with versions pool.now (class_view class.now)) out.old out.new result }
 {
     put_version(out, versions, class.minor_version, class.major_version)?;
+    put_manner(out, versions, class.release)?;
     put_pool(out, pool)?;
     put_behind_pool(out, pool, class)
 }

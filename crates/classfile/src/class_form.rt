@@ -132,7 +132,7 @@ pub fn class_rule(class: &ClassFile<'_>) -> Option<FormRule>
         Some(index_rule(class_has_bad(class)))
     } else if class_has_array(class) {
         Some(FormRule::BadName)
-    } else if are_bad_class_flags(class.access_flags) {
+    } else if are_bad_class_flags(class.major_version, class.access_flags) {
         Some(FormRule::BadFlags)
     } else if has_bad_super(class) {
         Some(FormRule::BadSuper)

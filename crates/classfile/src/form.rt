@@ -1,21 +1,27 @@
 //! Whether a class file is well formed (JVMS 4.1 to 4.7).
 ghost use Rattle.std.specs.Prelude.{◌≡◌, false, IfOk, IfErr, MatchResult};
 ghost use Rattle.classfile.specs.private.TextForms.{AreForms};
-ghost use Rattle.classfile.specs.Views.{class_view};
+ghost use Rattle.classfile.specs.private.Told.{entry_told, class_told, field_told, method_told};
+ghost use Rattle.classfile.specs.Views.{class_view, member_view};
+ghost use Rattle.pool.specs.Views.{view};
 ghost use Rattle.classfile.specs.WellFormed.{WellFormed, Passes, TellsFirst};
 ghost use Rattle.classfile.specs.declared.form_fault.FormFault.TheVariants.{OutOfMemory};
 ghost use Rattle.classfile.specs.declared.form_fault.Place.TheVariants as places;
 
+use crate::bootstraps::Bootstraps;
 use crate::class_file::ClassFile;
 use crate::class_form::class_rule;
 use crate::constant_form::constant_rule;
 use crate::duplicate_finder::DuplicateFinder;
 use crate::flags::{INTERFACE, has};
-use crate::form_fault::{FormFault, Place};
+use crate::form_fault::{FormFault, FormRule, Place};
+use crate::member::Member;
 use crate::member_form::{field_rule, method_rule};
 use crate::profile::Profile;
+use crate::release_form;
 use crate::text_forms::TextForms;
-use std::alloc::Global;
+use pool::Constant;
+use std::alloc::{AllocError, Global};
 
 /// A class file that is well formed.
 #[derive(Clone, Copy)]
@@ -48,14 +54,85 @@ impl<'c, 'a> Formed<'c, 'a> {
     }
 }
 
-fn pool_form(class: &ClassFile<'_>, forms: &mut TextForms) -> Result<(), FormFault>
+/// The rule that a constant of the class breaks; one of a release where it breaks no other.
+fn entry_told(
+    class: &ClassFile<'_>,
+    forms: &mut TextForms,
+    bootstraps: &mut Bootstraps<'_, '_>,
+    constant: &Constant<'_>,
+) -> Result<Option<FormRule>, AllocError>
+    requires forms { AreForms class.now.constant_pool forms.now }
+    requires class { bootstraps.now ≡ class.now }
+    ensures told { IfOk result (λ r. r ≡ entry_told (class_view class.now) (view constant.now)) }
+    ensures kept { AreForms class.now.constant_pool forms.new }
+    ensures same { bootstraps.new ≡ bootstraps.old }
+{
+    let rule = constant_rule(class.major_version, &class.constant_pool, forms, constant);
+    if rule.is_none() && class.release {
+        return release_form::constant_rule(class, forms, bootstraps, constant);
+    }
+    Ok(rule)
+}
+
+/// The rule that the class itself breaks; one of a release where it breaks no other.
+fn class_told(alloc: Global, class: &ClassFile<'_>) -> Result<Option<FormRule>, AllocError>
+    ensures { IfOk result (λ r. r ≡ class_told (class_view class.now)) }
+{
+    let rule = class_rule(class);
+    if rule.is_none() && class.release {
+        return release_form::class_rule(alloc, class);
+    }
+    Ok(rule)
+}
+
+/// The rule that a field of the class breaks, where an earlier one has its name and descriptor or none has; one of a
+/// release where it breaks no other.
+fn field_told(
+    class: &ClassFile<'_>,
+    forms: &mut TextForms,
+    repeated: bool,
+    field: &Member<'_>,
+) -> Option<FormRule>
+    requires { AreForms class.now.constant_pool forms.now }
+    ensures told { result ≡ field_told (class_view class.now) repeated (member_view field.now) }
+    ensures kept { AreForms class.now.constant_pool forms.new }
+{
+    let rule = field_rule(&class.constant_pool, forms, repeated, field);
+    if rule.is_none() && class.release {
+        return release_form::field_rule(class, field);
+    }
+    rule
+}
+
+/// The rule that a method of the class breaks, where an earlier one has its name and descriptor or none has; one of a
+/// release where it breaks no other.
+fn method_told(
+    alloc: Global,
+    class: &ClassFile<'_>,
+    forms: &mut TextForms,
+    repeated: bool,
+    method: &Member<'_>,
+) -> Result<Option<FormRule>, AllocError>
+    requires { AreForms class.now.constant_pool forms.now }
+    ensures told { IfOk result (λ r. r ≡ method_told (class_view class.now) repeated (member_view method.now)) }
+    ensures kept { AreForms class.now.constant_pool forms.new }
+{
+    let interface = has(class.access_flags, INTERFACE);
+    let rule = method_rule(&class.constant_pool, forms, interface, repeated, method);
+    if rule.is_none() && class.release {
+        return release_form::method_rule(alloc, class, forms, method);
+    }
+    Ok(rule)
+}
+
+fn pool_form(alloc: Global, class: &ClassFile<'_>, forms: &mut TextForms) -> Result<(), FormFault>
     requires { AreForms class.now.constant_pool forms.now }
     ensures passes { Passes (class_view class.now) (λ n. places.Pool n) result }
     ensures kept { AreForms class.now.constant_pool forms.new }
 {
-    let pool = &class.constant_pool;
-    for (place, constant) in pool.constants().iter().enumerate() {
-        if let Some(rule) = constant_rule(class.major_version, pool, forms, constant) {
+    let mut bootstraps = Bootstraps::new(alloc, class);
+    for (place, constant) in class.constant_pool.constants().iter().enumerate() {
+        if let Some(rule) = entry_told(class, forms, &mut bootstraps, constant)? {
             return Err(FormFault::Broken {
                 rule,
                 place: Place::Pool(place + 1),
@@ -65,10 +142,10 @@ fn pool_form(class: &ClassFile<'_>, forms: &mut TextForms) -> Result<(), FormFau
     Ok(())
 }
 
-fn class_form(class: &ClassFile<'_>) -> Result<(), FormFault>
+fn class_form(alloc: Global, class: &ClassFile<'_>) -> Result<(), FormFault>
     ensures { Passes (class_view class.now) (λ n. places.Class) result }
 {
-    match class_rule(class) {
+    match class_told(alloc, class)? {
         Some(rule) => Err(FormFault::Broken {
             rule,
             place: Place::Class,
@@ -86,7 +163,7 @@ fn fields_form(alloc: Global, class: &ClassFile<'_>, forms: &mut TextForms) -> R
     let mut seen = DuplicateFinder::new(alloc, pool, class.fields.len())?;
     for (n, field) in class.fields.iter().enumerate() {
         let repeated = seen.meet(pool, &class.fields[..n], field)?;
-        if let Some(rule) = field_rule(pool, forms, repeated, field) {
+        if let Some(rule) = field_told(class, forms, repeated, field) {
             return Err(FormFault::Broken {
                 rule,
                 place: Place::Field(n),
@@ -105,11 +182,10 @@ fn methods_form(
     ensures { Passes (class_view class.now) (λ n. places.Method n) result }
 {
     let pool = &class.constant_pool;
-    let interface = has(class.access_flags, INTERFACE);
     let mut seen = DuplicateFinder::new(alloc, pool, class.methods.len())?;
     for (n, method) in class.methods.iter().enumerate() {
         let repeated = seen.meet(pool, &class.methods[..n], method)?;
-        if let Some(rule) = method_rule(pool, forms, interface, repeated, method) {
+        if let Some(rule) = method_told(alloc, class, forms, repeated, method)? {
             return Err(FormFault::Broken {
                 rule,
                 place: Place::Method(n),
@@ -124,8 +200,8 @@ fn places_form(alloc: Global, class: &ClassFile<'_>) -> Result<(), FormFault>
     ensures { MatchResult result (λ _. WellFormed (class_view class.now)) (TellsFirst (class_view class.now)) }
 {
     let mut forms = TextForms::new(alloc, &class.constant_pool)?;
-    pool_form(class, &mut forms)?;
-    class_form(class)?;
+    pool_form(alloc, class, &mut forms)?;
+    class_form(alloc, class)?;
     fields_form(alloc, class, &mut forms)?;
     methods_form(alloc, class, &mut forms)
 }

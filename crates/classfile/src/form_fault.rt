@@ -32,6 +32,13 @@ pub enum FormRule {
     BadCodeLength,
     /// 30: an attribute that may stand once stands twice (JVMS 4.7.3, 4.7.4).
     AttributeTwice,
+    /// 87: a row of LineNumberTable, LocalVariableTable or LocalVariableTypeTable passes the code or the local
+    /// variables, has a name or descriptor that is not of its form, or stands twice (JVMS 4.7.12 to 4.7.14); of a class
+    /// that is read as a release has it.
+    BadDebugTable,
+    /// 90: the class has no bootstrap method for a constant, or one whose handle or arguments may not be used (JVMS
+    /// 4.4.10, 4.7.23); of a class that is read as a release has it.
+    BadBootstrap,
 }
 
 impl FormRule {
@@ -51,6 +58,8 @@ impl FormRule {
             FormRule::BadSuper => 28,
             FormRule::BadCodeLength => 29,
             FormRule::AttributeTwice => 30,
+            FormRule::BadDebugTable => 87,
+            FormRule::BadBootstrap => 90,
         }
     }
 }
@@ -74,7 +83,7 @@ pub enum FormFault {
     /// 1: memory ran out. It may stand in place of any other answer.
     #[error("refused 1")]
     OutOfMemory,
-    /// 20 to 30: the rule is broken at the place.
+    /// 20 to 30, 87 and 90: the rule is broken at the place.
     #[error("refused {}", rule.number())]
     Broken { rule: FormRule, place: Place },
 }

@@ -150,7 +150,7 @@ pub fn layout_at(
 }
 
 /// Whether the body is a count, and as many rows of so many bytes.
-fn has_count(width: usize, body: &[u8]) -> bool
+pub fn has_count(width: usize, body: &[u8]) -> bool
     ensures { result ≡ has_count width body.now }
 {
     let [high, low, rows @ ..] = body else {

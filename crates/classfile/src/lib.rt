@@ -32,6 +32,7 @@
 //! | `number_form` | which rule is broken by an index in an attribute of numbers |
 //! | `repeated_attributes` | whether an attribute stands twice |
 //! | `record_form` | which rule is broken by the attributes of a class |
+//! | `release_form` | which rule is broken that a release has, beside those of every class |
 //! | `attribute_fault` | [`attribute_at_fault`], which attribute breaks the rule at a place |
 //! | `text_forms` | the forms of each text of the pool, judged once |
 //! | `indices`, `naming`, `flags` | what an index leads to, forms of names and descriptors, access flags |
@@ -76,6 +77,7 @@ mod own_fields;
 mod profile;
 mod reading;
 mod record_form;
+mod release_form;
 mod repeated_attributes;
 mod skipping;
 mod table;

@@ -1,7 +1,7 @@
 //! Which rule a field or a method breaks (JVMS 4.5, 4.6).
 ghost use Rattle.std.specs.Prelude.{◌≡◌, ◌||◌, Ok};
 ghost use Rattle.classfile.specs.Conditions.{broken_rule};
-ghost use Rattle.classfile.specs.MemberForm.{member_has_bad, member_has_other, field_conditions, may_name_method, is_bad_method_name, may_describe_method, is_badly_described, is_instance_initializer, is_badly_flagged, has_body, body_conditions, method_conditions};
+ghost use Rattle.classfile.specs.MemberForm.{member_has_bad, member_has_other, field_conditions, may_name_method, is_bad_method_name, may_describe_method, is_badly_described, is_instance_initializer, is_class_initializer, is_badly_flagged, has_body, body_conditions, method_conditions};
 ghost use Rattle.classfile.specs.private.MemberTexts.{HasTexts, AreSoundTexts, named_method_conditions};
 ghost use Rattle.classfile.specs.private.TextForms.{name_form_of, descriptor_form_of, AreForms};
 ghost use Rattle.classfile.specs.Views.{member_view};
@@ -150,6 +150,17 @@ pub fn is_instance_initializer(pool: &Pool<'_>, method: &Member<'_>) -> bool
 {
     match pool.text(method.name) {
         Ok(name) => is_init(name),
+        Err(_) => false,
+    }
+}
+
+/// Whether the method is a class initialization method (JVMS 2.9.2).
+#[tactic(auto, unfolding(crate::specs::MemberForm::is_class_initializer))]
+pub fn is_class_initializer(pool: &Pool<'_>, method: &Member<'_>) -> bool
+    ensures { result ≡ is_class_initializer pool.now (member_view method.now) }
+{
+    match pool.text(method.name) {
+        Ok(name) => is_clinit(name),
         Err(_) => false,
     }
 }

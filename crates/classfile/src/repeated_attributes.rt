@@ -10,6 +10,7 @@ use crate::attribute::Attribute;
 use crate::class_attribute::ClassAttribute;
 use crate::layouts::{AttributeLayout, layouts_in};
 use crate::location::Location;
+use crate::nested::NestedAttribute;
 
 /// An attribute of a table that may have attributes of numbers.
 pub trait Tabled {
@@ -86,6 +87,34 @@ impl<'a> Tabled for ClassAttribute<'a> {
 
     fn is_of_parts(&self) -> bool {
         matches!(self, ClassAttribute::Record { .. })
+    }
+}
+
+impl<'a> Tabled for NestedAttribute<'a> {
+    ghost use Rattle.std.specs.Prelude.{ℕ, List};
+    ghost use Rattle.classfile.specs.Views.{nested_view};
+
+    ghost Held = { List ℕ };
+
+    ghost attribute = { nested_view };
+
+    fn layout(&self) -> Option<&AttributeLayout<'_>> {
+        match self {
+            NestedAttribute::Numbers { numbers, .. } => Some(numbers.layout),
+            NestedAttribute::StackMapTable { .. } | NestedAttribute::Raw { .. } => None,
+        }
+    }
+
+    fn name(&self) -> u16 {
+        match self {
+            NestedAttribute::StackMapTable { name, .. }
+            | NestedAttribute::Numbers { name, .. }
+            | NestedAttribute::Raw { name, .. } => *name,
+        }
+    }
+
+    fn is_of_parts(&self) -> bool {
+        matches!(self, NestedAttribute::StackMapTable { .. })
     }
 }
 

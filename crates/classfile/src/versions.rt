@@ -1,6 +1,6 @@
 //! Which versions a class file may have.
 ghost use Rattle.std.specs.Prelude.{◌≡◌};
-ghost use Rattle.classfile.specs.Versions.{is_between, is_version};
+ghost use Rattle.classfile.specs.Versions.{is_between, is_version, is_release};
 
 /// Which versions a class file may have (JVMS 4.1, table 4.1-A).
 #[derive(Clone, Copy, Debug, PartialEq, Eq)]
@@ -13,6 +13,16 @@ pub enum Versions {
 }
 
 impl Versions {
+    /// Whether all rules of form are judged that a release has.
+    pub fn is_release(self) -> bool
+        ensures { result ≡ is_release self }
+    {
+        match self {
+            Versions::Java7To17 => false,
+            Versions::Release { .. } => true,
+        }
+    }
+
     /// Whether a class file of this version may be read.
     pub fn take(self, minor: u16, major: u16) -> bool
         ensures { result ≡ is_version self minor major }

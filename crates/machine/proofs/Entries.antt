@@ -12,7 +12,7 @@ use Rattle.classfile.specs.MethodParts.{code_at}
 use Rattle.classfile.specs.WellFormed.{WellFormed, conditions_of_method}
 use Rattle.classfile.proofs.FormedMethods.{formed_method}
 use Rattle.classfile.proofs.FormedNames.{none_holds}
-use Rattle.classfile.proofs.Places.{method_is}
+use Rattle.classfile.proofs.Places.{own_rule, method_is}
 use Rattle.classfile.specs.declared.code.ExceptionHandler.{ExceptionHandler}
 use Rattle.classfile.specs.declared.form_fault.Place.TheVariants as places
 use Rattle.classfile.specs.Values.{of_parts, of_numbers, raw, Handler, CodeBody, Attribute, Member, Class}
@@ -74,7 +74,7 @@ few n e = let f : nat_lt 65535 n ≡ false = right_of (nat_eq n 0) (nat_lt 65535
 fits : (c : Class) → WellFormed c → (n : ℕ) (m : Member) (body : CodeBody) → slice_get c.methods n ≡ Some m → code_of m.attributes ≡ Some body → length body.code ≤ 65535
 unfolding have_bad_length
 fits c formed n m body here coded =
-    let none = none_holds (conditions_of_method c n m) (sym (method_is c n m here) ∙ formed.everywhere (places.Method n)) in
+    let none = none_holds (conditions_of_method c n m) (own_rule _ _ (sym (method_is c n m here) ∙ formed.everywhere (places.Method n))) in
     few (length body.code) (code_passes has_bad_length m.attributes body coded none.1.1.1.1.1.1.1.1.0)
 
 found_member : (o : Option Member) (body : CodeBody) → option_and_then (λ m. code_of m.attributes) o ≡ Some body → (m : Member) × (o ≡ Some m) × (code_of m.attributes ≡ Some body)

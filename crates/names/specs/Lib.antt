@@ -3,6 +3,7 @@ pub mod DescriptorCodes
 pub mod Descriptors
 pub mod Faults
 pub mod Forms
+pub mod MetNames
 pub mod Names
 pub mod Parameters
 pub mod ReadTypes

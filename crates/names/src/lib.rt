@@ -20,6 +20,7 @@
 //! - `name_run`, `type_end`: where the types of a descriptor end, for judging it without them.
 //! - `field_descriptor`: whether a text is the descriptor of a field.
 //! - `references`: the types of references, and those that Class constants name.
+//! - `met_names`: names that were met.
 //! - `standard`: names that the standard speaks of.
 //! - `fault`: the refusals.
 #![tactic(auto)]
@@ -31,6 +32,7 @@ mod descriptor;
 mod fault;
 mod field_descriptor;
 mod forms;
+mod met_names;
 mod name;
 mod name_run;
 mod one_byte_units;
@@ -49,6 +51,7 @@ pub use descriptor::{FieldType, MethodType};
 pub use fault::NameFault;
 pub use field_descriptor::is_field_descriptor;
 pub use forms::{NameForms, name_forms};
+pub use met_names::MetNames;
 pub use name::{is_class_name, is_field_name, is_method_name, names_by_units};
 pub use parameters::{Parameters, parameter_types};
 pub use reading::{

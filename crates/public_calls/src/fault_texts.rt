@@ -130,13 +130,15 @@ fn faults_of_form(rt: HostRuntime) {
     assert!(rt; are_shown(rt.alloc(), &FAULTS_OF_FORM));
 }
 
-const FAULTS_OF_MEMBERS_AND_CODE: [(FormFault, &str); 6] = [
+const FAULTS_OF_MEMBERS_AND_CODE: [(FormFault, &str); 8] = [
     (broken!(Twice), "refused 25"),
     (broken!(CodeMissing), "refused 26"),
     (broken!(CodeNotAllowed), "refused 27"),
     (broken!(BadSuper), "refused 28"),
     (broken!(BadCodeLength), "refused 29"),
     (broken!(AttributeTwice), "refused 30"),
+    (broken!(BadDebugTable), "refused 87"),
+    (broken!(BadBootstrap), "refused 90"),
 ];
 
 #[test]

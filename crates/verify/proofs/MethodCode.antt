@@ -10,7 +10,7 @@ use Rattle.classfile.specs.Methods.{JudgedClass, Method, ExceptionEntry, code_of
 use Rattle.classfile.specs.MethodParts.{code_at}
 use Rattle.classfile.specs.AttributeForm.{on_body, has_bad_length, have_bad_length}
 use Rattle.classfile.specs.WellFormed.{WellFormed, conditions_of_method}
-use Rattle.classfile.proofs.Places.{method_is}
+use Rattle.classfile.proofs.Places.{own_rule, method_is}
 use Rattle.classfile.proofs.FormedNames.{none_holds, left_not, right_not}
 use Rattle.insn.specs.Meanings.{Act}
 
@@ -46,7 +46,7 @@ length_good : (c : Class) → WellFormed c → (number : ℕ) (body : CodeBody) 
 unfolding have_bad_length
 length_good c formed number body x =
     let none = none_holds (conditions_of_method c number x.member)
-    (sym (method_is c number x.member x.numbered) ∙ formed.everywhere (places.Method number)) in
+    (own_rule _ _ (sym (method_is c number x.member x.numbered) ∙ formed.everywhere (places.Method number))) in
     length_passes x.member.attributes body x.has_code none.1.1.1.1.1.1.1.1.0
 
 -- code_length is 1 to 65,535 (4.7.3)

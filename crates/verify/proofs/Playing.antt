@@ -22,11 +22,11 @@ use Rattle.verify.specs.Answers.{Answers}
 use Rattle.machine.specs.Demands.{IsNoFault}
 use Rattle.verify.specs.ClassRuns.{Moment, state_in, IsClassRun}
 use Rattle.verify.specs.ClassRunSafety.{IsInPlay, AreVerified, ArePlayable}
-use Rattle.verify.specs.declared.met_names.MetNames.{MetNames}
+use Rattle.names.specs.declared.met_names.MetNames.{MetNames}
 use Rattle.verify.specs.declared.play.PlayFault.TheVariants.{NotAllVerified}
 use Rattle.verify.specs.declared.play.PlayStop.{PlayStop}
 use Rattle.verify.specs.declared.play.PlayStop.TheVariants as stops
-use Rattle.verify.specs.private.MetNames.{is_met, Meets}
+use Rattle.names.specs.MetNames.{is_met, Meets}
 use Rattle.verify.specs.Plays.{IsFineVerdict, AreFineBelow, HasEarlier, IsFirstOfName, IsFine, Breaks, HasRefused, AreFine, ArePlayed, BreaksFirst, IsNotPlayed, IsStopped}
 use Rattle.verify.specs.private.PlaySteps.{AreMet, Judges}
 use Rattle.verify.proofs.safety.Worlds.{name_same}

@@ -6,7 +6,6 @@ pub mod FileSteps
 pub mod InTurn
 pub mod Judged
 pub mod JudgingSteps
-pub mod MetNames
 pub mod PlaySteps
 pub mod Ran
 pub mod Ready

@@ -10,11 +10,11 @@ ghost use Rattle.verify.specs.ClassRunSafety.{ArePlayable};
 
 use crate::final_super::has_final_super;
 use crate::listing::has_summary;
-use crate::met_names::MetNames;
 use crate::report::{MethodVerdict, Report, report_listed};
 use crate::verdict::Verdict;
 use classfile::Formed;
 use hierarchy::{Classes, Prepared, name_of, summary_of};
+use names::MetNames;
 use std::alloc::{AllocError, AllocFailed, Global};
 use thiserror::Error;
 use type_numbers::TypeNumbers;

@@ -14,13 +14,14 @@ use Rattle.pool.specs.EntryLaws.{writes_pool}
 use Rattle.classfile.specs.declared.location.Location.{Location}
 use Rattle.classfile.specs.declared.location.Location.TheVariants as location
 use Rattle.classfile.specs.declared.versions.Versions.{Versions}
-use Rattle.classfile.specs.Versions.{is_version}
+use Rattle.classfile.specs.Versions.{is_version, is_release}
+use mathlib.Core.Bool.{beq}
 use Rattle.classfile.specs.Locations.{is_code, is_stack_map, is_record}
 use Rattle.classfile.specs.Layouts.{AttributeLayout, has_layout, layout_at}
 use Rattle.classfile.specs.Numbers.{Numbers, is_laid_out}
 use Rattle.classfile.specs.private.NumbersLaws.{laid_out_parts, laid_out_as_it_is}
 use Rattle.classfile.specs.Values.{AttributeOf, of_parts, of_numbers, raw, name_of, Handler, Nested, CodeBody, Attribute, Member, Component, ClassAttribute, Class}
-use Rattle.classfile.specs.ClassFile.{attribute_info, Sizes, kept, handler, nested, sizes, handlers, nested_attributes, code, attribute, attributes, three, member, members, two, component, components, class_attribute, class_attributes, version, interfaces, class}
+use Rattle.classfile.specs.ClassFile.{attribute_info, Sizes, kept, handler, nested, sizes, handlers, nested_attributes, code, attribute, attributes, three, member, members, two, component, components, class_attribute, class_attributes, version, manner, interfaces, class}
 
 -- ---- what each part is written as
 
@@ -84,6 +85,10 @@ abbrev pub version_pieces : Versions → ℕ × ℕ → List Piece
 version_pieces versions v =
     field 4 0xCAFEBABE ++ (field 2 v.0 ++ marked (is_version versions v.0 v.1) (field 2 v.1))
 
+-- nothing is written where the class is read otherwise
+abbrev pub manner_pieces : Versions → Bool → List Piece
+manner_pieces versions release = marked (beq (is_release versions) release) []
+
 -- the fields, the methods and the attributes of a class, where this is its pool
 abbrev pub tables_pieces : List Entry → Class → List Piece
 tables_pieces pool c =
@@ -98,7 +103,7 @@ behind_pool_pieces pool c =
 
 abbrev pub pieces_with : Versions → List Entry → Class → List Piece
 pieces_with versions pool c = version_pieces versions (c.minor_version, c.major_version)
-    ++ (pool_pieces pool ++ behind_pool_pieces pool c)
+    ++ (manner_pieces versions c.release ++ (pool_pieces pool ++ behind_pool_pieces pool c))
 
 unfoldable pub class_pieces : Versions → Class → List Piece
 class_pieces versions c = pieces_with versions c.constant_pool c
@@ -443,22 +448,40 @@ writes_version versions = record { has = has; only = only }
           plain_append (field 4 0xCAFEBABE) (rest_of z.0) (subst (λ (k : ℕ). ArePlain (field 4 k)) magic x.3) z.3,
         )
 
+pub writes_manner : (versions : Versions) → Writes (manner versions) (manner_pieces versions)
+unfolding manner
+writes_manner versions = record { has = has (is_release versions); only = only (is_release versions) }
+  where
+    has : (own release : Bool) → ArePlain (marked (beq own release) []) → Spells (done own) (text (marked (beq own release) [])) release
+    has true true h = (refl, refl)
+    has false false h = (refl, refl)
+    has true false h = absurd h
+    has false true h = absurd h
+
+    only : (own release : Bool) (bytes : List ℕ) → AreBytes bytes → Spells (done own) bytes release
+        → (x : Bool) × (x ≡ release) × (bytes ≡ text (marked (beq own x) [])) × ArePlain (marked (beq own x) [])
+    only true release bytes fit s = (true, s.1, s.0, tt)
+    only false release bytes fit s = (false, s.1, s.0, tt)
+
 pub writes_class : (versions : Versions) → Writes (class versions) (class_pieces versions)
 unfolding class class_pieces
 writes_class versions = made_whole {A = (ℕ × ℕ)
-    × (List Entry × ((ℕ × ℕ × ℕ) × (List ℕ × (List Member × (List Member × List ClassAttribute)))))}
+    × (Bool × (List Entry × ((ℕ × ℕ × ℕ) × (List ℕ × (List Member × (List Member × List ClassAttribute))))))}
     (λ c. (
       (c.minor_version, c.major_version),
       (
-        c.constant_pool,
+        c.release,
         (
-          (c.access_flags, c.this_class, c.super_class),
-          (c.interfaces, (c.fields, (c.methods, c.attributes))),
+          c.constant_pool,
+          (
+            (c.access_flags, c.this_class, c.super_class),
+            (c.interfaces, (c.fields, (c.methods, c.attributes))),
+          ),
         ),
       ),
     )) (λ c. refl) (λ a. refl)
-    (made_then _ (writes_version versions) (λ v. made_then _ writes_pool
+    (made_then _ (writes_version versions) (λ v. made_then _ (writes_manner versions) (λ release. made_then _ writes_pool
     (λ pool. made_then _ writes_three (λ head. made_then _ writes_interfaces (λ i.
     made_then _ (writes_members pool location.Field)
     (λ f. made_then _ (writes_members pool location.Method)
-    (λ m. made_last _ (writes_class_attributes pool (location.Class v.1)))))))))
+    (λ m. made_last _ (writes_class_attributes pool (location.Class v.1))))))))))

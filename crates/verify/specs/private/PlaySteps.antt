@@ -3,11 +3,11 @@ use Rattle.std.specs.Prelude.{◌≡◌, ℕ, ◌+◌, true, List, Result, Ok, E
 use Rattle.classfile.specs.Methods.{JudgedClass}
 use Rattle.hierarchy.specs.Class.{ClassFact}
 use Rattle.hierarchy.specs.Rules.{IsHierarchy}
-use Rattle.verify.specs.declared.met_names.MetNames.{MetNames}
+use Rattle.names.specs.declared.met_names.MetNames.{MetNames}
 use Rattle.verify.specs.declared.report.Report.{Report}
 use Rattle.verify.specs.declared.play.PlayStop.{PlayStop}
 use Rattle.verify.specs.declared.play.PlayStop.TheVariants.{OutOfMemory, Broken, Refused}
-use Rattle.verify.specs.private.MetNames.{is_met}
+use Rattle.names.specs.MetNames.{is_met}
 use Rattle.verify.specs.Plays.{HasEarlier, IsFine, Breaks, HasRefused}
 
 -- the names of the classes before a place were met, and no others

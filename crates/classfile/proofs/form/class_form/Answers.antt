@@ -4,7 +4,7 @@ use Rattle.classfile.proofs.Places.{class_is}
 use Rattle.classfile.proofs.form.class_form.Goals as goal
 
 pub returns-in-Some : goal.returns-in-Some
-returns-in-Some c = (0, refl, class_is (class_view c.args.class.now) ∙ sym c.in-Some.ensures, λ k lt. absurd (omega arith))
+returns-in-Some c = (0, refl, class_is (class_view c.args.class.now) ∙ sym (c.in_ok-rule.ensures) ∙ c.in-Some.is, λ k lt. absurd (omega arith))
 
 pub returns-in-None : goal.returns-in-None
-returns-in-None c = λ n. class_is (class_view c.args.class.now) ∙ sym c.in-None.ensures
+returns-in-None c = λ n. class_is (class_view c.args.class.now) ∙ sym (c.in_ok-rule.ensures) ∙ c.in-None.is

@@ -20,7 +20,7 @@ returns-in-Some-clause-passes c =
     let repeats : c.in_ok-repeated.repeated ≡ is_repeated k.constant_pool before m = met.repeats ∙ ap (λ l. is_repeated k.constant_pool l m) same in
     let here : slice_get k.fields n ≡ Some m =
     ap (λ l. slice_get (map member_view l) n) (sym c.deref-field-items.ensures.value) ∙ viewed_at member_view c.deref-field-items.result.now n c.field-item.result c.loop-n-test.true c.field-item.is in
-    (n, refl, field_told k n m c.in_ok-repeated.repeated here repeats ∙ sym c.field_rule.ensures.told ∙ c.in-Some.is, c.loop-n.invariant.none)
+    (n, refl, field_told k n m c.in_ok-repeated.repeated here repeats ∙ sym c.field_told.ensures.told ∙ c.in-Some.is, c.loop-n.invariant.none)
 
 pub loop-n-preserved : goal.loop-n-preserved
 loop-n-preserved c =
@@ -34,9 +34,9 @@ loop-n-preserved c =
     let here : slice_get k.fields n ≡ Some m =
     ap (λ l. slice_get (map member_view l) n) (sym c.deref-field-items.ensures.value) ∙ viewed_at member_view c.deref-field-items.result.now n c.field-item.result c.loop-n-test.true c.field-item.is in
     record {
-      kept = c.field_rule.ensures.kept;
+      kept = c.field_told.ensures.kept;
       met = subst (λ l. WereMet k.constant_pool l c.meet.new.self) (sym (take_one_more k.fields n m here)) (subst (λ l. WereMet k.constant_pool (l ++ m ∷ []) c.meet.new.self) same met.met);
-      none = none_more k (λ i. places.Field i) n c.loop-n.invariant.none (field_told k n m c.in_ok-repeated.repeated here repeats ∙ sym c.field_rule.ensures.told ∙ c.in_default.is);
+      none = none_more k (λ i. places.Field i) n c.loop-n.invariant.none (field_told k n m c.in_ok-repeated.repeated here repeats ∙ sym c.field_told.ensures.told ∙ c.in_default.is);
     }
 
 pub returns-clause-passes : goal.returns-clause-passes

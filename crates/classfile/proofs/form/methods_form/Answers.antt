@@ -20,7 +20,7 @@ returns-in-Some c =
     let repeats : c.in_ok-repeated.repeated ≡ is_repeated k.constant_pool before m = met.repeats ∙ ap (λ l. is_repeated k.constant_pool l m) same in
     let here : slice_get k.methods n ≡ Some m =
     ap (λ l. slice_get (map member_view l) n) (sym c.deref-method-items.ensures.value) ∙ viewed_at member_view c.deref-method-items.result.now n c.method-item.result c.loop-n-test.true c.method-item.is in
-    (n, refl, method_told k n m c.has-interface.result c.in_ok-repeated.repeated here c.has-interface.ensures repeats ∙ sym c.method_rule.ensures.told ∙ c.in-Some.is, c.loop-n.invariant.none)
+    (n, refl, method_told k n m c.in_ok-repeated.repeated here repeats ∙ sym c.in_ok-rule.ensures.told ∙ c.in-Some.is, c.loop-n.invariant.none)
 
 pub loop-n-preserved : goal.loop-n-preserved
 loop-n-preserved c =
@@ -34,9 +34,9 @@ loop-n-preserved c =
     let here : slice_get k.methods n ≡ Some m =
     ap (λ l. slice_get (map member_view l) n) (sym c.deref-method-items.ensures.value) ∙ viewed_at member_view c.deref-method-items.result.now n c.method-item.result c.loop-n-test.true c.method-item.is in
     record {
-      kept = c.method_rule.ensures.kept;
+      kept = c.method_told.ensures.kept;
       met = subst (λ l. WereMet k.constant_pool l c.meet.new.self) (sym (take_one_more k.methods n m here)) (subst (λ l. WereMet k.constant_pool (l ++ m ∷ []) c.meet.new.self) same met.met);
-      none = none_more k (λ i. places.Method i) n c.loop-n.invariant.none (method_told k n m c.has-interface.result c.in_ok-repeated.repeated here c.has-interface.ensures repeats ∙ sym c.method_rule.ensures.told ∙ c.in_default.is);
+      none = none_more k (λ i. places.Method i) n c.loop-n.invariant.none (method_told k n m c.in_ok-repeated.repeated here repeats ∙ sym c.in_ok-rule.ensures.told ∙ c.in_default.is);
     }
 
 pub returns : goal.returns

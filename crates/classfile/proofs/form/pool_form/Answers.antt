@@ -14,7 +14,7 @@ returns-in-Some-clause-passes c =
     let constants = c.constants-constant-items in
     let here : slice_get k.constant_pool at ≡ Some (view c.constant-item.result) =
     ap (λ l. slice_get l at) (sym constants.ensures) ∙ viewed_at view constants.result.now at c.constant-item.result c.loop-place-test.true c.constant-item.is in
-    (at + 1, refl, entry_is k at (view c.constant-item.result) here ∙ sym c.constant_rule.ensures.told ∙ c.in-Some.is, earlier_entries k at c.loop-place.invariant.none)
+    (at + 1, refl, entry_is k at (view c.constant-item.result) here ∙ sym c.in_ok-rule.ensures.told ∙ c.in-Some.is, earlier_entries k at c.loop-place.invariant.none)
 
 pub loop-place-preserved : goal.loop-place-preserved
 loop-place-preserved c =
@@ -24,8 +24,9 @@ loop-place-preserved c =
     let here : slice_get k.constant_pool at ≡ Some (view c.constant-item.result) =
     ap (λ l. slice_get l at) (sym constants.ensures) ∙ viewed_at view constants.result.now at c.constant-item.result c.loop-place-test.true c.constant-item.is in
     record {
-      kept = c.constant_rule.ensures.kept;
-      none = none_more k (λ n. places.Pool (n + 1)) at c.loop-place.invariant.none (entry_is k at (view c.constant-item.result) here ∙ sym c.constant_rule.ensures.told ∙ c.in_default.is);
+      kept = c.entry_told.ensures.kept;
+      same = c.entry_told.ensures.same ∙ c.loop-place.invariant.same;
+      none = none_more k (λ n. places.Pool (n + 1)) at c.loop-place.invariant.none (entry_is k at (view c.constant-item.result) here ∙ sym c.in_ok-rule.ensures.told ∙ c.in_default.is);
     }
 
 pub returns-clause-passes : goal.returns-clause-passes

@@ -9,4 +9,5 @@ abbrev pub invariant-loop-place : goal.invariant-loop-place
 invariant-loop-place l = record {
   none : (k : ℕ) → k < l.place → fault_at (class_view l.class) (places.Pool (k + 1)) ≡ None;
   kept : AreForms l.class.constant_pool l.forms;
+  same : l.bootstraps ≡ l.class;
 }

@@ -1,6 +1,6 @@
 //! Names that were met, each found by its bytes.
 ghost use Rattle.std.specs.Prelude.{◌≡◌, ℕ, List, false, IfOk};
-ghost use Rattle.verify.specs.private.MetNames.{is_met, Meets};
+ghost use Rattle.names.specs.MetNames.{is_met, Meets};
 
 use std::alloc::{AllocError, Global};
 use std::collections::BTreeMap;

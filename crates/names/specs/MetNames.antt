@@ -1,9 +1,9 @@
--- Names that were met. Words of the code's own steps.
+-- Names that were met.
 use Rattle.std.specs.Prelude.{◌≡◌, ℕ, Bool, ◌||◌, is_some, bytes_eq, List}
 use Rattle.std.specs.BTreeMap.{get_by}
 use Rattle.std.specs.Cmp.Lexicographic.{slice_cmp}
 use Rattle.std.specs.Ordering.{nat_cmp}
-use Rattle.verify.specs.declared.met_names.MetNames.{MetNames}
+use Rattle.names.specs.declared.met_names.MetNames.{MetNames}
 
 abbrev pub is_met : MetNames → List ℕ → Bool
 is_met names name = is_some (get_by (λ k. slice_cmp nat_cmp name k.now) names.places)

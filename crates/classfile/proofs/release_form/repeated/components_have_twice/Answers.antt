@@ -1,0 +1,18 @@
+use Rattle.std.proofs.Common.{rules, tests, ◌≡◌, ◌∙◌, Bool}
+use Rattle.std.specs.List.{list_any}
+use Rattle.std.proofs.lemmas.Iterator.{YieldsList-from_slice}
+use Rattle.std.proofs.lemmas.Iterator.Search.{any_from_yields_List}
+use Rattle.classfile.specs.release.Attributes.{component_has_twice, components_have_twice}
+use Rattle.classfile.specs.Values.{Component}
+use Rattle.classfile.specs.Views.{component_view}
+use Rattle.classfile.proofs.Tables.{any_viewed}
+use Rattle.classfile.proofs.release_form.repeated.components_have_twice.Goals as goal
+
+pub returns : goal.returns
+unfolding components_have_twice
+returns c =
+    let xs = c.args.components.now in
+    let test : Component → Bool = component_has_twice c.args.major c.args.pool.now in
+    let e : c.any.result ≡ list_any (λ a. test (component_view a)) xs =
+    any_from_yields_List (λ a. test (component_view a)) _ _ c.any.result c.any.ensures.ran (YieldsList-from_slice xs cc) (λ x b q k. search (rules, tests)) in
+    e ∙ any_viewed test component_view xs
