@@ -19,6 +19,10 @@ pub mod ClassEnters
 pub mod ClassMethods
 pub mod ClassRuns
 pub mod ClassRunBreadth
+pub mod HeapRuns
+pub mod HeapPlaces
+pub mod HeapAccesses
+pub mod HeapRunBreadth
 pub mod PlayableMethods
 pub mod FitsBreadth
 pub mod NewMaps

@@ -5,6 +5,9 @@ pub mod Safety
 pub mod ClassRuns
 pub mod ClassRunSafety
 pub mod ClassRunBreadth
+pub mod HeapRuns
+pub mod HeapRunSafety
+pub mod HeapRunBreadth
 pub mod PlayableMethods
 pub mod MemberWords
 pub mod SeenMethods

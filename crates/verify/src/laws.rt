@@ -5,6 +5,7 @@ ghost use Rattle.verify.specs.Refusals.{MapRefusedWhere, RefusedWhere};
 ghost use Rattle.verify.specs.DetailLaws.{DetailsAreTold, MapDetailsAreTold};
 ghost use Rattle.verify.specs.FitsBreadth.{FitsBreadth};
 ghost use Rattle.verify.specs.ClassRunBreadth.{ClassRunBreadth};
+ghost use Rattle.verify.specs.HeapRunBreadth.{EachMomentIsSafe, HeapRunBreadth};
 ghost use Rattle.verify.specs.PlayableMethods.{AllAreInPlay, PlayableIsSafe};
 ghost use Rattle.verify.specs.MemberWords.{BootstrapsAreSaid, GuardsAreSaid, PackagesAreSaid};
 ghost use Rattle.verify.specs.SeenMethods.{MethodsAreSeen};
@@ -103,6 +104,16 @@ pub fn class_run_breadth()
 {
     step_breadth();
 }
+
+/// A read gives each value that was ever stored in its place and is ready for the activation, and so the default of its
+/// type; and it gives no other. A store stays in its place, and is in no other one. An array of references takes exactly
+/// the values of its component. Others store each value that fits, and no other. A step of a class run is one here if
+/// what it reads comes from the history; and without its history each run here is a class run. Where classes are playable
+/// with a heap, no activation is at a fault in any moment to which a run comes.
+pub fn heap_run_breadth()
+    ensures runs { HeapRunBreadth }
+    ensures safe { EachMomentIsSafe }
+{}
 
 /// Each method with code of each class of the list is in play, by the texts of its name and its descriptor. If the
 /// classes are playable, each of these methods is safe by itself, in each part of the theorem.

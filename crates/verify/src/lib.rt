@@ -6,8 +6,7 @@
 //! - `method`: the verdict on a method, step by step; `verdict`: its type; `refusal`: verdicts that refuse.
 //! - `report`: the verdicts on the methods of a class.
 //! - `final_super`: whether the superclass of a class is final; `listing`: whether a hierarchy has a class as it is.
-//! - `play`: the reports on classes whose methods may call each other; `met_names`: the names of the classes before
-//!   one.
+//! - `play`: the reports on classes whose methods may call each other.
 //! - `explanation`: a report, with the frames at the instructions at which methods are refused; `frames_at`: these
 //!   frames, by one walk once more over the code; `detail`: what is wrong there, by the reason; `difference_at`: how a
 //!   frame that leads to a target or a handler differs from the one that is declared there; `exceptions`: the entry of
@@ -54,7 +53,6 @@ mod judgements;
 mod known_classes;
 mod laws;
 mod listing;
-mod met_names;
 mod method;
 mod pass;
 mod play;
@@ -77,10 +75,10 @@ pub use frames_at::FramesAt;
 pub use judgements::{EachFault, Judgement, verify_each};
 pub use known_classes::{AmongFault, explain_among_under, verify_among, verify_among_under};
 pub use laws::{
-    class_run_breadth, details_are_told, fits_breadth, frames_are_judged, map_details_are_told,
-    map_refused_where, member_words_are_said, methods_are_seen, one_frames, one_report,
-    one_verdict, playable_methods_are_safe, refused_breaks, refused_where, type_safe_is_verified,
-    verified_is_type_safe, walks_are_runs,
+    class_run_breadth, details_are_told, fits_breadth, frames_are_judged, heap_run_breadth,
+    map_details_are_told, map_refused_where, member_words_are_said, methods_are_seen, one_frames,
+    one_report, one_verdict, playable_methods_are_safe, refused_breaks, refused_where,
+    type_safe_is_verified, verified_is_type_safe, walks_are_runs,
 };
 pub use method::verify_method;
 pub use play::{PlayFault, PlayRule, verify_play};
@@ -88,6 +86,6 @@ pub use report::{
     ClassFault, MethodVerdict, Report, verify_by_numbers, verify_class, verify_class_under,
     verify_methods,
 };
-pub use theorem::{type_safe_is_safe, verified_is_playable};
+pub use theorem::{type_safe_is_safe, verified_is_playable, verified_is_playable_with_heap};
 pub use verdict::{Verdict, VerifyFault};
 pub use verified_walk::{WalkFault, walk_verified};

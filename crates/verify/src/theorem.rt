@@ -2,6 +2,7 @@
 ghost use Rattle.verify.specs.Safety.{TypeSafeIsSafe, OperandsAreRight, StackStaysWithin, ControlStaysOnStarts, ObjectsAreReady, OwnObjectIsReady};
 ghost use Rattle.verify.specs.ClassMethods.{TypeSafeMethodsAreSafe};
 ghost use Rattle.verify.specs.ClassRunSafety.{VerifiedIsPlayable};
+ghost use Rattle.verify.specs.HeapRunSafety.{PlayableIsPlayableWithHeap, VerifiedIsPlayableWithHeap};
 
 /// A method that is type-safe under a hierarchy meets no fault in any run, in any world that extends the hierarchy. By
 /// its parts: operands and local variables are there and of their types; the stack never passes max_stack; control
@@ -22,4 +23,12 @@ pub fn type_safe_is_safe()
 /// hierarchy. It need not be assumed that the values which the entered methods return fit.
 pub fn verified_is_playable()
     ensures { VerifiedIsPlayable }
+{}
+
+/// Classes of which each method with code is type-safe meet no fault when they run together, whatever they store and
+/// read: a read gives the default of its type, or any value that was stored there before. It need not be assumed that
+/// this value fits, unless others stored it. The second clause is about all classes that are playable.
+pub fn verified_is_playable_with_heap()
+    ensures verified { VerifiedIsPlayableWithHeap }
+    ensures playable { PlayableIsPlayableWithHeap }
 {}

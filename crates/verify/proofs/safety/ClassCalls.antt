@@ -28,7 +28,7 @@ beneath_pushed w h (t ∷ ts) ns (v ∷ vs) us e = beneath_pushed w h ts (demand
 beneath_pushed w h [] ns (v ∷ vs) us e = cc
 beneath_pushed w h (t ∷ ts) ns [] us e = cc
 
-meets_field : (w : World) (h : Heap) (t : FieldDescriptor) (v : Value) → Meets w h (demand_of t) v → FitsField w h t v
+pub meets_field : (w : World) (h : Heap) (t : FieldDescriptor) (v : Value) → Meets w h (demand_of t) v → FitsField w h t v
 meets_field w h (primitive p) v f = f
 meets_field w h (class n) v f = f
 meets_field w h (array c) v f = f

@@ -196,7 +196,7 @@ reference_in w h k t (number j) g f = f
 reference_in w h k t null g f = tt
 reference_in w h k t (reference a) g f = (f.0, g a f.0 f.1, f.2)
 
-field_in : (w : World) (h k : Heap) (t : FieldDescriptor) (v : Value) → KeepsReady h k → FitsField w h t v → FitsField w k t v
+pub field_in : (w : World) (h k : Heap) (t : FieldDescriptor) (v : Value) → KeepsReady h k → FitsField w h t v → FitsField w k t v
 field_in w h k (primitive p) v g f = f
 field_in w h k (class n) v g f = reference_in w h k (class_type n) v g f
 field_in w h k (array c) v g f = reference_in w h k (array_type c) v g f

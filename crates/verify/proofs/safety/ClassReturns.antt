@@ -90,19 +90,19 @@ no_wide_constant m t (Some (entries.Double high low)) l = l
 no_wide_constant m t (Some (entries.Dynamic bootstrap name)) l = no_computed m.dynamic 2 t l
 no_wide_constant m t (Some _) l = l
 
-no_get_static : (o : Option FieldConstant) → IsLast (effects.get_static o) → ⊥
+pub no_get_static : (o : Option FieldConstant) → IsLast (effects.get_static o) → ⊥
 no_get_static None l = l
 no_get_static (Some f) l = l
 
-no_put_static : (o : Option FieldConstant) → IsLast (effects.put_static o) → ⊥
+pub no_put_static : (o : Option FieldConstant) → IsLast (effects.put_static o) → ⊥
 no_put_static None l = l
 no_put_static (Some f) l = l
 
-no_get_field : (o : Option FieldConstant) → IsLast (effects.get_field o) → ⊥
+pub no_get_field : (o : Option FieldConstant) → IsLast (effects.get_field o) → ⊥
 no_get_field None l = l
 no_get_field (Some f) l = l
 
-no_put_field : (m : Method Act) (o : Option FieldConstant) → IsLast (effects.put_field m o) → ⊥
+pub no_put_field : (m : Method Act) (o : Option FieldConstant) → IsLast (effects.put_field m o) → ⊥
 no_put_field m None l = l
 no_put_field m (Some f) l = l
 

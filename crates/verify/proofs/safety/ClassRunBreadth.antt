@@ -38,7 +38,7 @@ views types a = record {
   others = λ address e. ap (option_map (λ x. object x (a.status address))) e;
 }
 
-shows : (m : Method Act) (s : State) (callers : List Activation) → Shows m s callers (moment (types_of s.heap) (activation m s ∷ callers))
+pub shows : (m : Method Act) (s : State) (callers : List Activation) → Shows m s callers (moment (types_of s.heap) (activation m s ∷ callers))
 shows m s callers = record {
   last = activation m s;
   activations = refl;
@@ -64,7 +64,7 @@ fresh_types heap [] = refl
 fresh_types heap (x ∷ xs) =
     fresh_types (with_object heap x.0 (object x.1 ready)) xs ∙ ap (λ t. with_types t xs) (put_types heap x.0 (object x.1 ready))
 
-types_with : (types : Types) (status : ℕ → Status) (fresh : List (ℕ × ReferenceType)) → types_of (with_fresh (heap_in types status) fresh) ≡ with_types types fresh
+pub types_with : (types : Types) (status : ℕ → Status) (fresh : List (ℕ × ReferenceType)) → types_of (with_fresh (heap_in types status) fresh) ≡ with_types types fresh
 types_with types status fresh =
     fresh_types (heap_in types status) fresh ∙ ap (λ t. with_types t fresh) (same_types (types_of (heap_in types status)) types (seen types status))
 
