@@ -26,7 +26,7 @@ enum {
 
 /* The options, to be added. */
 enum {
-    CLASSCK_JSON = 1,     /* of check, verify and explain: objects of JSON, each on a line, in place of words */
+    CLASSCK_JSON = 1,     /* of all but show: objects of JSON, each on a line, in place of words */
     CLASSCK_DYNAMIC = 2,  /* of verify, explain, play and verify-each: judge invokedynamic and dynamic constants too */
     CLASSCK_RELEASE = 256 /* times N, of 7 to 27, and without CLASSCK_DYNAMIC: as Java SE N does */
 };

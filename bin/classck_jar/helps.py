@@ -47,5 +47,6 @@ HELPS = {
     79: "write the code anew",
     81: "compile the class anew with its new superclass",
     82: "use the member only on objects of the class itself and of classes below it; cast the object if it is one",
+    87: "a tool wrote the class wrongly: use a newer one",
     90: "write the class anew with its attribute BootstrapMethods, with the entry and its number",
 }

@@ -3,12 +3,14 @@ use Rattle.std.proofs.Common.{◌≡◌, ℕ, ◌+◌, ◌<◌, List, ◌++◌, 
 use Rattle.std.proofs.lemmas.Bool.{ltb-false, ltb-true}
 use Rattle.std.proofs.lemmas.List.{at_drop_more}
 use Rattle.verify.specs.declared.judgements.Judgement.{Judgement}
+use Rattle.answers.specs.declared.command.Form.{Form}
 use Rattle.answers.specs.Judgements.{numbered_lines, lines_from, judgement_status, greater, worst_status}
 
 -- the lines of the file at i, in front of those after it
-pub lines_left : (js : List Judgement) (i : ℕ) (j : Judgement) → i < length js → j ≡ slice_index_or js i j
-    → lines_from (i + 1) (drop i js) ≡ numbered_lines (i + 1) j ++ lines_from ((i + 1) + 1) (drop (i + 1) js)
-lines_left js i j lt here = at_drop_more (lines_from (i + 1)) js i j lt ∙ ap (λ y. numbered_lines (i + 1) y ++ lines_from ((i + 1) + 1) (drop (i + 1) js)) (sym here)
+pub lines_left : (form : Form) (js : List Judgement) (i : ℕ) (j : Judgement) → i < length js → j ≡ slice_index_or js i j
+    → lines_from form (i + 1) (drop i js) ≡ numbered_lines form (i + 1) j ++ lines_from form ((i + 1) + 1) (drop (i + 1) js)
+lines_left form js i j lt here =
+    at_drop_more (lines_from form (i + 1)) js i j lt ∙ ap (λ y. numbered_lines form (i + 1) y ++ lines_from form ((i + 1) + 1) (drop (i + 1) js)) (sym here)
 
 -- ---- the greatest
 

@@ -38,6 +38,6 @@ same_answer laws (Check form profile) (file ∷ others) text other status next p
 same_answer laws (Show profile) (file ∷ others) text other status next p q = one_said laws Plain ShowTells one_show (known_file profile file).read text other status next p q
 same_answer laws (Verify form profile) (file ∷ known) text other status next p q = one_verify laws (Told form) profile (judged_file profile file) (map (known_file profile) known) text other status next p q
 same_answer laws (Explain form profile) (file ∷ known) text other status next p q = one_verify laws (Explained form) profile (judged_file profile file) (map (known_file profile) known) text other status next p q
-same_answer laws (Play profile) (file ∷ others) text other status next p q = one_play laws profile (reads_of (map (judged_file profile) (file ∷ others))) text other status next p q
-same_answer laws (VerifyEach profile classes) (file ∷ others) text other status next p q =
-    one_each laws profile (reads_of (map (judged_file profile) (take classes (file ∷ others)))) (reads_of (map (known_file profile) (drop classes (file ∷ others)))) text other status next p q
+same_answer laws (Play form profile) (file ∷ others) text other status next p q = one_play laws form profile (reads_of (map (judged_file profile) (file ∷ others))) text other status next p q
+same_answer laws (VerifyEach form profile classes) (file ∷ others) text other status next p q =
+    one_each laws form profile (reads_of (map (judged_file profile) (take classes (file ∷ others)))) (reads_of (map (known_file profile) (drop classes (file ∷ others)))) text other status next p q

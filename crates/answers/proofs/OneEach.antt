@@ -19,11 +19,14 @@ use Rattle.verify.specs.Files.{Read}
 use Rattle.verify.specs.Reports.{Reports}
 use Rattle.verify.specs.Standing.{standing}
 use Rattle.verify.specs.Each.{with_class, AddsFile, AddsFiles, AreClasses, IsAnswered, IsJudged, AreJudged}
-use Rattle.answers.specs.declared.command.Form.TheVariants.{Plain}
+use Rattle.printing.specs.Json.{number, object_line}
+use Rattle.answers.specs.declared.command.Form.{Form}
+use Rattle.answers.specs.declared.command.Form.TheVariants.{Plain, Json}
 use Rattle.answers.specs.declared.manner.Manner.TheVariants.{Told}
 use Rattle.answers.specs.Files.{refusal_status}
-use Rattle.answers.specs.Verdicts.{class_refusal}
-use Rattle.answers.specs.Judgements.{judgement_lines, class_text, numbered_lines, lines_from, judgement_status, greater, worst_status, EachSays}
+use Rattle.answers.specs.Texts.{kind}
+use Rattle.answers.specs.Verdicts.{class_refusal, named_field}
+use Rattle.answers.specs.Judgements.{judgement_lines, class_text, class_fields, file_line, numbered_lines, lines_from, judgement_status, greater, worst_status, EachSays}
 use Rattle.answers.proofs.OneFile.{Laws, one_formed, not_refused, one_refusal}
 use Rattle.answers.proofs.OneVerify.{same_refusal, one_class}
 
@@ -31,8 +34,15 @@ false_true : false ≡ true → ⊥
 false_true e = cc
 
 -- they are written in one way
-abbrev IsSame : Judgement → Judgement → Type 0
-IsSame j k = (judgement_lines j ≡ judgement_lines k) × (class_text j ≡ class_text k) × (judgement_status j ≡ judgement_status k)
+record IsSame (form : Form) (j k : Judgement) : Type 0 where
+  lines : judgement_lines form j ≡ judgement_lines form k
+  text : class_text j ≡ class_text k
+  fields : class_fields j ≡ class_fields k
+  status : judgement_status j ≡ judgement_status k
+
+same_file : (form : Form) (n : ℕ) (j k : Judgement) → IsSame form j k → file_line form n j ≡ file_line form n k
+same_file Plain n j k s = ap (λ x. codes "file " ++ (decimal n ++ (x ++ codes "\n"))) s.text
+same_file Json n j k s = ap (λ x. object_line (kind (codes "file") ∷ (codes "position", number n) ∷ x)) s.fields
 
 module _ (laws : Laws) where
   -- ---- the classes of files
@@ -53,66 +63,73 @@ module _ (laws : Laws) where
 
   -- ---- answers
 
-  module _ (profile : Profile) (hierarchy : List ClassFact) (read : Read) where
-    one_name : (name other : List ℕ) (answer next : Result Report ClassFault) → IsAnswered profile hierarchy read name answer → IsAnswered profile hierarchy read other next → codes " " ++ spelled_text name ≡ codes " " ++ spelled_text other
-    one_name name other answer next (c, p, e, a) (d, q, f, b) = ap (λ n. codes " " ++ spelled_text n) (sym e ∙ ap (λ (x : Class). (summary_of x).name) (one_formed laws read c d p q) ∙ f)
+  module _ (form : Form) (profile : Profile) (hierarchy : List ClassFact) (read : Read) where
+    one_name : (name other : List ℕ) (answer next : Result Report ClassFault) → IsAnswered profile hierarchy read name answer → IsAnswered profile hierarchy read other next → name ≡ other
+    one_name name other answer next (c, p, e, a) (d, q, f, b) = sym e ∙ ap (λ (x : Class). (summary_of x).name) (one_formed laws read c d p q) ∙ f
 
     not_both : (name other : List ℕ) (answer next : Result Report ClassFault) → ((c : JudgedClass) → Reports hierarchy c answer → Reports hierarchy c next → ⊥)
         → IsAnswered profile hierarchy read name answer → IsAnswered profile hierarchy read other next → ⊥
     not_both name other answer next never (c, p, e, a) (d, q, f, b) = never (judged profile c) a (subst (λ x. Reports hierarchy (judged profile x) next) (sym (one_formed laws read c d p q)) b)
 
-    same : (j k : Judgement) → IsJudged profile hierarchy read j → IsJudged profile hierarchy read k → IsSame j k
-    same (Refused r) (Refused s) p q = let e = one_refusal laws read r s p q in (ap (class_refusal Plain) e, refl, ap refusal_status e)
+    abbrev blank : List ℕ → List ℕ
+    blank name = codes " " ++ spelled_text name
+
+    same : (j k : Judgement) → IsJudged profile hierarchy read j → IsJudged profile hierarchy read k → IsSame form j k
+    same (Refused r) (Refused s) p q =
+        let e = one_refusal laws read r s p q in
+        record { lines = ap (class_refusal form) e; text = refl; fields = refl; status = ap refusal_status e }
     same (Refused r) (NotInHierarchy b) p (d, q, f, t) = absurd (not_refused laws read d r q p)
     same (Refused r) (FinalSuper b) p (d, q, f, t) = absurd (not_refused laws read d r q p)
     same (Refused r) (Reported b next) p (d, q, f, t) = absurd (not_refused laws read d r q p)
     same (NotInHierarchy a) (Refused s) (c, p, e, t) q = absurd (not_refused laws read c s p q)
     same (FinalSuper a) (Refused s) (c, p, e, t) q = absurd (not_refused laws read c s p q)
     same (Reported a report) (Refused s) (c, p, e, t) q = absurd (not_refused laws read c s p q)
-    same (NotInHierarchy a) (NotInHierarchy b) p q = (refl, one_name a.now b.now (Err classes.NotInHierarchy) (Err classes.NotInHierarchy) p q, refl)
+    same (NotInHierarchy a) (NotInHierarchy b) p q =
+        let e = one_name a.now b.now (Err classes.NotInHierarchy) (Err classes.NotInHierarchy) p q in
+        record { lines = refl; text = ap blank e; fields = ap named_field e; status = refl }
     same (NotInHierarchy a) (FinalSuper b) p q = absurd (not_both a.now b.now (Err classes.NotInHierarchy) (Err classes.FinalSuper) (λ c x y. x y.0) p q)
     same (NotInHierarchy a) (Reported b next) p q = absurd (not_both a.now b.now (Err classes.NotInHierarchy) (Ok next) (λ c x y. x y.1.listed) p q)
     same (FinalSuper a) (NotInHierarchy b) p q = absurd (not_both a.now b.now (Err classes.FinalSuper) (Err classes.NotInHierarchy) (λ c x y. y x.0) p q)
-    same (FinalSuper a) (FinalSuper b) p q = (refl, one_name a.now b.now (Err classes.FinalSuper) (Err classes.FinalSuper) p q, refl)
+    same (FinalSuper a) (FinalSuper b) p q =
+        let e = one_name a.now b.now (Err classes.FinalSuper) (Err classes.FinalSuper) p q in
+        record { lines = refl; text = ap blank e; fields = ap named_field e; status = refl }
     same (FinalSuper a) (Reported b next) p q = absurd (not_both a.now b.now (Err classes.FinalSuper) (Ok next) (λ c x y. false_true (sym y.0 ∙ x.1)) p q)
     same (Reported a report) (NotInHierarchy b) p q = absurd (not_both a.now b.now (Ok report) (Err classes.NotInHierarchy) (λ c x y. y x.1.listed) p q)
     same (Reported a report) (FinalSuper b) p q = absurd (not_both a.now b.now (Ok report) (Err classes.FinalSuper) (λ c x y. false_true (sym x.0 ∙ y.1)) p q)
     same (Reported a report) (Reported b next) (c, p, e, t) (d, q, f, u) =
         let v = subst (λ x. Reports hierarchy (judged profile x) (Ok next)) (sym (one_formed laws read c d p q)) u in
-        let one = one_class laws (Told Plain) hierarchy (judged profile c) _ _ _ _ (inr (t.0, (report.methods.items, t.1, refl, refl))) (inr (v.0, (next.methods.items, v.1, refl, refl))) in
-        (one.0, one_name a.now b.now (Ok report) (Ok next) (c, p, e, t) (d, q, f, u), one.1)
+        let one = one_class laws (Told form) hierarchy (judged profile c) _ _ _ _ (inr (t.0, (report.methods.items, t.1, refl, refl))) (inr (v.0, (next.methods.items, v.1, refl, refl))) in
+        let name = one_name a.now b.now (Ok report) (Ok next) (c, p, e, t) (d, q, f, u) in
+        record { lines = one.0; text = ap blank name; fields = ap named_field name; status = one.1 }
 
-  all_same : (profile : Profile) (hierarchy : List ClassFact) (reads : List Read) (n : ℕ) (js ks : List Judgement) → AreJudged profile hierarchy reads js → AreJudged profile hierarchy reads ks
-      → (lines_from n js ≡ lines_from n ks) × (worst_status js ≡ worst_status ks)
-  all_same profile hierarchy [] n [] [] p q = (refl, refl)
-  all_same profile hierarchy [] n [] (k ∷ ks) p q = absurd q
-  all_same profile hierarchy [] n (j ∷ js) ks p q = absurd p
-  all_same profile hierarchy (read ∷ reads) n [] ks p q = absurd p
-  all_same profile hierarchy (read ∷ reads) n (j ∷ js) [] p q = absurd q
-  all_same profile hierarchy (read ∷ reads) n (j ∷ js) (k ∷ ks) p q =
-      let here = same profile hierarchy read j k p.0 q.0 in
-      let rest = all_same profile hierarchy reads (n + 1) js ks p.1 q.1 in (
-        ap (λ x. x ++ lines_from (n + 1) js) (one_text n j k here) ∙ ap (λ x. numbered_lines n k ++ x) rest.0,
-        ap (λ s. greater s (worst_status js)) here.2 ∙ ap (greater (judgement_status k)) rest.1,
+  all_same : (form : Form) (profile : Profile) (hierarchy : List ClassFact) (reads : List Read) (n : ℕ) (js ks : List Judgement) → AreJudged profile hierarchy reads js
+      → AreJudged profile hierarchy reads ks → (lines_from form n js ≡ lines_from form n ks) × (worst_status js ≡ worst_status ks)
+  all_same form profile hierarchy [] n [] [] p q = (refl, refl)
+  all_same form profile hierarchy [] n [] (k ∷ ks) p q = absurd q
+  all_same form profile hierarchy [] n (j ∷ js) ks p q = absurd p
+  all_same form profile hierarchy (read ∷ reads) n [] ks p q = absurd p
+  all_same form profile hierarchy (read ∷ reads) n (j ∷ js) [] p q = absurd q
+  all_same form profile hierarchy (read ∷ reads) n (j ∷ js) (k ∷ ks) p q =
+      let here = same form profile hierarchy read j k p.0 q.0 in
+      let rest = all_same form profile hierarchy reads (n + 1) js ks p.1 q.1 in (
+        ap (λ x. (x ++ judgement_lines form j) ++ lines_from form (n + 1) js) (same_file form n j k here)
+            ∙ ap (λ x. (file_line form n k ++ x) ++ lines_from form (n + 1) js) here.lines
+            ∙ ap (λ x. numbered_lines form n k ++ x) rest.0,
+        ap (λ s. greater s (worst_status js)) here.status ∙ ap (greater (judgement_status k)) rest.1,
       )
-    where
-      one_text : (n : ℕ) (j k : Judgement) → IsSame j k → numbered_lines n j ≡ numbered_lines n k
-      one_text n j k here =
-          ap (λ x. codes "file " ++ (decimal n ++ (x ++ (codes "\n" ++ judgement_lines j)))) here.1
-          ∙ ap (λ x. codes "file " ++ (decimal n ++ (class_text k ++ (codes "\n" ++ x)))) here.0
 
   -- ---- what is said
 
-  pub one_each : (profile : Profile) (reads known : List Read) (text other : List ℕ) (status next : ℕ)
-      → EachSays profile reads known text status → EachSays profile reads known other next → (text ≡ other) × (status ≡ next)
-  one_each profile reads known text other status next (inl (js, (a, p, h, is), t, s)) (inl (ks, (b, q, g, are), u, v)) =
+  pub one_each : (form : Form) (profile : Profile) (reads known : List Read) (text other : List ℕ) (status next : ℕ)
+      → EachSays form profile reads known text status → EachSays form profile reads known other next → (text ≡ other) × (status ≡ next)
+  one_each form profile reads known text other status next (inl (js, (a, p, h, is), t, s)) (inl (ks, (b, q, g, are), u, v)) =
       let e = one_list reads known a b p q in
-      let one = all_same profile (standing b) reads 1 js ks (subst (λ k. AreJudged profile (standing k) reads js) e is) are in
+      let one = all_same form profile (standing b) reads 1 js ks (subst (λ k. AreJudged profile (standing k) reads js) e is) are in
       (t ∙ one.0 ∙ sym u, s ∙ one.1 ∙ sym v)
-  one_each profile reads known text other status next (inl (js, (a, p, h, is), t, s)) (inr (f, (b, q, m, fault), u, v)) =
+  one_each form profile reads known text other status next (inl (js, (a, p, h, is), t, s)) (inr (f, (b, q, m, fault), u, v)) =
       absurd (laws.not_hierarchy (standing b) f m fault (subst (λ k. IsHierarchy (standing k)) (one_list reads known a b p q) h))
-  one_each profile reads known text other status next (inr (f, (a, p, m, fault), t, s)) (inl (ks, (b, q, g, are), u, v)) =
+  one_each form profile reads known text other status next (inr (f, (a, p, m, fault), t, s)) (inl (ks, (b, q, g, are), u, v)) =
       absurd (laws.not_hierarchy (standing a) f m fault (subst (λ k. IsHierarchy (standing k)) (sym (one_list reads known a b p q)) g))
-  one_each profile reads known text other status next (inr (f, (a, p, m, fault), t, s)) (inr (g, (b, q, n, also), u, v)) =
+  one_each form profile reads known text other status next (inr (f, (a, p, m, fault), t, s)) (inr (g, (b, q, n, also), u, v)) =
       let one = laws.one_hierarchy_fault (standing b) f g m n (subst (λ k. FaultOf (standing k) f) (one_list reads known a b p q) fault) also in
-      (t ∙ same_refusal Plain f g one.0 one.1 ∙ sym u, s ∙ sym v)
+      (t ∙ same_refusal form f g one.0 one.1 ∙ sym u, s ∙ sym v)

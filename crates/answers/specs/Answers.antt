@@ -47,9 +47,10 @@ Says (Verify form profile) (file ∷ known) text status =
     VerifySays (manners.Told form) profile (judged_file profile file) (map (known_file profile) known) text status
 Says (Explain form profile) (file ∷ known) text status =
     VerifySays (manners.Explained form) profile (judged_file profile file) (map (known_file profile) known) text status
-Says (Play profile) files text status = PlaySays profile (reads_of (map (judged_file profile) files)) text status
-Says (VerifyEach profile classes) files text status =
-    EachSays profile (reads_of (map (judged_file profile) (take classes files)))
+Says (Play form profile) files text status =
+    PlaySays form profile (reads_of (map (judged_file profile) files)) text status
+Says (VerifyEach form profile classes) files text status =
+    EachSays form profile (reads_of (map (judged_file profile) (take classes files)))
     (reads_of (map (known_file profile) (drop classes files))) text status
 
 -- The bytes that a writer holds after an answer: the whole text was written; or nothing, where memory ran out; or a

@@ -5,7 +5,7 @@ use Rattle.layout.specs.Refusals.{read_fault_number}
 use Rattle.layout.specs.declared.fault.ReadFault.{ReadFault}
 use Rattle.layout.specs.declared.fault.ReadFault.TheVariants.{BadVersion}
 use Rattle.classfile.specs.declared.form_fault.FormRule.{FormRule}
-use Rattle.classfile.specs.declared.form_fault.FormRule.TheVariants.{WrongKind}
+use Rattle.classfile.specs.declared.form_fault.FormRule.TheVariants.{WrongKind, Twice}
 use Rattle.classfile.specs.declared.versions.Versions.{Versions}
 use Rattle.classfile.specs.declared.versions.Versions.TheVariants.{Java7To17, Release}
 use Rattle.classfile.specs.Conditions.{rule_number}
@@ -72,6 +72,7 @@ sentences =
     ∷ (79, codes "BadCode: the code is refused at this instruction")
     ∷ (81, codes "FinalSuper: the superclass of the class is final")
     ∷ (82, codes "ProtectedMember: a protected member of another package is used on an object that is not assignable to the current class")
+    ∷ (87, codes "BadDebugTable: a row of a debug table passes the code or the local variables, is not of its form, or stands twice")
     ∷ (90, codes "BadBootstrap: the class has no bootstrap method for the constant, or one whose handle or arguments may not be used")
     ∷ []
 
@@ -117,6 +118,7 @@ version_sentence e = sentence (read_fault_number e)
 
 abbrev pub kind_sentence : FormRule → List ℕ
 kind_sentence WrongKind = codes "WrongKind: an index leads to another kind of constant than it should, or a constant stands in a class of a version that has none of its kind"
+kind_sentence Twice = codes "Twice: an earlier field or method has this name and descriptor, or an interface is listed twice"
 kind_sentence rule = sentence (rule_number rule)
 
 abbrev pub release_sentence : FileFault → List ℕ

@@ -54,10 +54,12 @@ pub fn answer<W: Write, S: BuildHasher + Drop>(
                 let manner = Manner::Explained(form);
                 verify(alloc, manner, profile, file, known, hasher, out)
             }
-            Command::Play(profile) => play(alloc, profile, reads, hasher, out),
-            Command::VerifyEach { profile, classes } => verify_each(
-                alloc, profile, classes, reads, hasher, out,
-            ),
+            Command::Play(form, profile) => play(alloc, form, profile, reads, hasher, out),
+            Command::VerifyEach {
+                form,
+                profile,
+                classes,
+            } => verify_each(alloc, form, profile, classes, reads, hasher, out),
         },
     }
 }

@@ -25,9 +25,13 @@ pub enum Command {
     Explain(Form, Profile),
     /// `play CLASS...`: whether the classes in the files may run together, each method that has code verified; with
     /// `--dynamic` by [`Profile::Dynamic`].
-    Play(Profile),
+    Play(Form, Profile),
     /// `verify-each CLASS... --known KNOWN...`: the verdicts on the methods of each of the classes in the first so many
     /// files, which may refer to one another and to the classes in the others; with `--dynamic` by
     /// [`Profile::Dynamic`].
-    VerifyEach { profile: Profile, classes: usize },
+    VerifyEach {
+        form: Form,
+        profile: Profile,
+        classes: usize,
+    },
 }

@@ -66,6 +66,10 @@ fn rule_sentence(rule: FormRule) -> &'static str
         FormRule::BadCodeLength => "BadCodeLength: the length of the code is not 1 to 65,535 bytes",
         FormRule::AttributeTwice =>
             "AttributeTwice: two attributes stand of a kind of which there may be one",
+        FormRule::BadDebugTable =>
+            "BadDebugTable: a row of a debug table passes the code or the local variables, is not of its form, or stands twice",
+        FormRule::BadBootstrap =>
+            "BadBootstrap: the class has no bootstrap method for the constant, or one whose handle or arguments may not be used",
     }
 }
 
@@ -193,13 +197,16 @@ fn version_sentence(fault: &ReadFault) -> &'static str
     }
 }
 
-/// With a release, what is said of a constant of another kind than it should be; the sentence on another rule.
+/// With a release, what is said of a constant of another kind than it should be, and of what stands twice; the sentence
+/// on another rule.
 fn kind_sentence(rule: FormRule) -> &'static str
     ensures { result.now ≡ kind_sentence rule }
 {
     match rule {
         FormRule::WrongKind =>
             "WrongKind: an index leads to another kind of constant than it should, or a constant stands in a class of a version that has none of its kind",
+        FormRule::Twice =>
+            "Twice: an earlier field or method has this name and descriptor, or an interface is listed twice",
         _ => rule_sentence(rule),
     }
 }

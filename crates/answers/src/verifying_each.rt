@@ -16,16 +16,17 @@ use std::hash::BuildHasher;
 use std::io::Write;
 use verify::{EachFault, verify_each as judge_each};
 
-/// Answers `verify-each`, by a profile: about the classes in these files, among one another and the known classes.
+/// Answers `verify-each` in a form, by a profile: about the classes in these files, among one another and the known classes.
 fn verify_among<'a, S: BuildHasher + Drop, W: Write>(
     alloc: Global,
+    form: Form,
     profile: Profile,
     classes: InputFiles<'a>,
     known: InputFiles<'a>,
     hasher: S,
     out: &mut W,
 ) -> Result<u8, AnswerFault>
-    ensures { Answered (EachSays profile (reads_of (files_view classes.entry)) (reads_of (files_view known.entry)))
+    ensures { Answered (EachSays form profile (reads_of (files_view classes.entry)) (reads_of (files_view known.entry)))
         (W.contents out.old) (W.contents out.new) result }
 {
     let files = match file_reads(alloc, classes) {
@@ -38,21 +39,20 @@ fn verify_among<'a, S: BuildHasher + Drop, W: Write>(
     };
     match judge_each(alloc, profile, &files, &others, hasher) {
         Ok(judgements) => {
-            let text = JudgementsText(&judgements);
+            let judgements = &judgements;
+            let text = JudgementsText { form, judgements };
             tell(&text, text.status(), out)
         }
         Err(EachFault::OutOfMemory) => Err(AnswerFault::OutOfMemory),
-        Err(EachFault::NoHierarchy(fault)) => {
-            let form = Form::Plain;
-            tell(&HierarchyRefusal { form, fault }, 1, out)
-        }
+        Err(EachFault::NoHierarchy(fault)) => tell(&HierarchyRefusal { form, fault }, 1, out),
     }
 }
 
-/// Answers `verify-each`, by a profile: about the classes in the first so many files. The others are files of known
+/// Answers `verify-each` in a form, by a profile: about the classes in the first so many files. The others are files of known
 /// classes.
 pub fn verify_each<S: BuildHasher + Drop, W: Write>(
     alloc: Global,
+    form: Form,
     profile: Profile,
     classes: usize,
     reads: &[Result<Vec<u8>, CutShort>],
@@ -60,7 +60,7 @@ pub fn verify_each<S: BuildHasher + Drop, W: Write>(
     out: &mut W,
 ) -> Result<u8, AnswerFault>
     ensures { let files = map input_view reads.now in
-        Answered (EachSays profile (reads_of (map (judged_file profile) (take classes files)))
+        Answered (EachSays form profile (reads_of (map (judged_file profile) (take classes files)))
         (reads_of (map (known_file profile) (drop classes files)))) (W.contents out.old) (W.contents out.new) result }
 {
     let (files, others) = reads.split_at(classes.min(reads.len()));
@@ -72,5 +72,5 @@ pub fn verify_each<S: BuildHasher + Drop, W: Write>(
         reads: others,
         versions: profile.known_versions(),
     };
-    verify_among(alloc, profile, files, known, hasher, out)
+    verify_among(alloc, form, profile, files, known, hasher, out)
 }

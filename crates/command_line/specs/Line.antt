@@ -69,7 +69,7 @@ class_files = record (new_rule (codes "CLASS")) {
 }
 
 abbrev pub play : Shape
-play = (with_rule (with_rule (with_rule (new_app (codes "play")) class_files) dynamic) release).top
+play = (with_rule (with_rule (with_rule (with_rule (new_app (codes "play")) class_files) dynamic) release) json).top
 
 -- any number of files of other classes that they may refer to, after `--known`
 abbrev pub known_option : Rule
@@ -81,8 +81,8 @@ known_option = record (new_rule (codes "KNOWN")) {
 }
 
 abbrev pub verify_each : Shape
-verify_each = (with_rule (with_rule (with_rule
-    (with_rule (new_app (codes "verify-each")) class_files) known_option) dynamic) release).top
+verify_each = (with_rule (with_rule (with_rule (with_rule
+    (with_rule (new_app (codes "verify-each")) class_files) known_option) dynamic) release) json).top
 
 -- the program itself, which prints its version, and takes one of the commands
 abbrev pub program : App
@@ -116,8 +116,8 @@ files_in (Check form profile) rows = words_for (codes "FILE") rows
 files_in (Show profile) rows = words_for (codes "FILE") rows
 files_in (Verify form profile) rows = words_for (codes "CLASS") rows ++ words_for (codes "KNOWN") rows
 files_in (Explain form profile) rows = words_for (codes "CLASS") rows ++ words_for (codes "KNOWN") rows
-files_in (Play profile) rows = words_for (codes "CLASS") rows
-files_in (VerifyEach profile classes) rows = words_for (codes "CLASS") rows ++ words_for (codes "KNOWN") rows
+files_in (Play form profile) rows = words_for (codes "CLASS") rows
+files_in (VerifyEach form profile classes) rows = words_for (codes "CLASS") rows ++ words_for (codes "KNOWN") rows
 
 -- a flag is set where its one word is `true`
 abbrev pub is_true : List Text → Bool
@@ -153,9 +153,9 @@ command_named name rows =
     if bytes_eq name (codes "show") then Show (profile_in rows)
     else if bytes_eq name (codes "verify") then Verify (form_in rows) (profile_in rows)
     else if bytes_eq name (codes "explain") then Explain (form_in rows) (profile_in rows)
-    else if bytes_eq name (codes "play") then Play (profile_in rows)
+    else if bytes_eq name (codes "play") then Play (form_in rows) (profile_in rows)
     else if bytes_eq name (codes "verify-each")
-    then VerifyEach (profile_in rows) (length (words_for (codes "CLASS") rows))
+    then VerifyEach (form_in rows) (profile_in rows) (length (words_for (codes "CLASS") rows))
     else Check (form_in rows) (profile_in rows)
 
 -- the request that the matches of a line make

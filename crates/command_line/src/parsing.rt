@@ -261,13 +261,13 @@ fn all_classes<'a>(alloc: Global) -> Result<Parser<'a>, AllocError>
     Parser::new(alloc, "play").arg(class_files(alloc))
 }
 
-/// `play --dynamic --release N CLASS...`
+/// `play --dynamic --release N --json CLASS...`
 fn play<'a>(alloc: Global) -> Result<Parser<'a>, AllocError>
     ensures app { IfOk result (λ c. app_of c
-        ≡ with_rule (with_rule (with_rule (new_app (codes "play")) class_files) dynamic) release) }
+        ≡ with_rule (with_rule (with_rule (with_rule (new_app (codes "play")) class_files) dynamic) release) json) }
     ensures local { IfOk result (λ c. (out-Command c).has_globals ≡ false) }
 {
-    let command = judging(alloc, all_classes(alloc)?)?;
+    let command = judging(alloc, all_classes(alloc)?)?.arg(json(alloc))?;
     Ok(
         command
             .about("Prints whether all methods of classes that run together are verified")
@@ -300,14 +300,14 @@ fn classes_and_known<'a>(alloc: Global) -> Result<Parser<'a>, AllocError>
         .arg(known_option(alloc))
 }
 
-/// `verify-each --dynamic --release N CLASS... --known KNOWN...`
+/// `verify-each --dynamic --release N --json CLASS... --known KNOWN...`
 fn verify_each<'a>(alloc: Global) -> Result<Parser<'a>, AllocError>
     ensures app { IfOk result (λ c. app_of c
-        ≡ with_rule (with_rule (with_rule
-        (with_rule (new_app (codes "verify-each")) class_files) known_option) dynamic) release) }
+        ≡ with_rule (with_rule (with_rule (with_rule
+        (with_rule (new_app (codes "verify-each")) class_files) known_option) dynamic) release) json) }
     ensures local { IfOk result (λ c. (out-Command c).has_globals ≡ false) }
 {
-    let command = judging(alloc, classes_and_known(alloc)?)?;
+    let command = judging(alloc, classes_and_known(alloc)?)?.arg(json(alloc))?;
     Ok(
         command
             .about("Prints the verdict on each method of each of many classes")
@@ -390,7 +390,7 @@ fn files(alloc: Global, command: Command, found: &ArgMatches<'_>) -> Result<Vec<
             add_words(alloc, found, "CLASS", &mut files)?;
             add_words(alloc, found, "KNOWN", &mut files)?;
         }
-        Command::Play(_) => add_words(alloc, found, "CLASS", &mut files)?,
+        Command::Play(..) => add_words(alloc, found, "CLASS", &mut files)?,
     }
     Ok(files)
 }
@@ -479,9 +479,10 @@ fn command_named(name: &str, found: &ArgMatches<'_>) -> Command
     } else if name == "explain" {
         Command::Explain(form(found), profile(found))
     } else if name == "play" {
-        Command::Play(profile(found))
+        Command::Play(form(found), profile(found))
     } else if name == "verify-each" {
         Command::VerifyEach {
+            form: form(found),
             profile: profile(found),
             classes: count_words(found, "CLASS"),
         }

@@ -31,8 +31,9 @@ Names r (Check form profile) = (r.command ≡ 1) × HaveOptions r.options form p
 Names r (Show profile) = (r.command ≡ 2) × HaveOptions r.options Plain profile × IsOfVersions profile
 Names r (Verify form profile) = (r.command ≡ 3) × HaveOptions r.options form profile
 Names r (Explain form profile) = (r.command ≡ 4) × HaveOptions r.options form profile
-Names r (Play profile) = (r.command ≡ 5) × HaveOptions r.options Plain profile
-Names r (VerifyEach profile classes) = (r.command ≡ 6) × HaveOptions r.options Plain profile × (r.classes ≡ classes)
+Names r (Play form profile) = (r.command ≡ 5) × HaveOptions r.options form profile
+Names r (VerifyEach form profile classes) =
+    (r.command ≡ 6) × HaveOptions r.options form profile × (r.classes ≡ classes)
 
 -- the command may judge so many files of so many: as many as a line of the program has
 abbrev pub MayJudge : Command → (classes count : ℕ) → Type 0
@@ -40,8 +41,8 @@ MayJudge (Check form profile) classes count = (classes ≡ 1) × (count ≡ 1)
 MayJudge (Show profile) classes count = (classes ≡ 1) × (count ≡ 1)
 MayJudge (Verify form profile) classes count = (classes ≡ 1) × (1 ≤ count)
 MayJudge (Explain form profile) classes count = (classes ≡ 1) × (1 ≤ count)
-MayJudge (Play profile) classes count = (classes ≡ count) × (1 ≤ count)
-MayJudge (VerifyEach profile few) classes count = (1 ≤ classes) × (classes ≤ count)
+MayJudge (Play form profile) classes count = (classes ≡ count) × (1 ≤ count)
+MayJudge (VerifyEach form profile few) classes count = (1 ≤ classes) × (classes ≤ count)
 
 -- the request asks for this command about so many files
 abbrev pub Asks : Request → ℕ → Command → Type 0

@@ -54,8 +54,9 @@ fn named(request: &Request, form: Form, profile: Profile) -> Option<Command>
         (2, Form::Plain, Profile::Default | Profile::Release(_)) => Some(Command::Show(profile)),
         (3, form, profile) => Some(Command::Verify(form, profile)),
         (4, form, profile) => Some(Command::Explain(form, profile)),
-        (5, Form::Plain, profile) => Some(Command::Play(profile)),
-        (6, Form::Plain, profile) => Some(Command::VerifyEach {
+        (5, form, profile) => Some(Command::Play(form, profile)),
+        (6, form, profile) => Some(Command::VerifyEach {
+            form,
             profile,
             classes: request.classes,
         }),
@@ -70,7 +71,7 @@ fn may_judge(command: Command, classes: usize, count: usize) -> bool
     match command {
         Command::Check(_, _) | Command::Show(_) => classes == 1 && count == 1,
         Command::Verify(_, _) | Command::Explain(_, _) => classes == 1 && 1 <= count,
-        Command::Play(_) => classes == count && 1 <= count,
+        Command::Play(..) => classes == count && 1 <= count,
         Command::VerifyEach { .. } => 1 <= classes && classes <= count,
     }
 }

@@ -60,7 +60,7 @@ const LINES: [Row<'static>; 4] = [
     ),
     (
         &["classck", "play", "K", "O"],
-        Command::Play(Profile::Default),
+        Command::Play(Form::Plain, Profile::Default),
         2,
         "O",
     ),
@@ -76,6 +76,7 @@ fn lines(rt: HostRuntime) {
 fn lines_of_many_classes(rt: HostRuntime) {
     let words = ["classck", "verify-each", "K", "L", "--known", "O"];
     let each = Command::VerifyEach {
+        form: Form::Plain,
         profile: Profile::Default,
         classes: 2,
     };
@@ -97,7 +98,7 @@ const DYNAMIC: [Row<'static>; 3] = [
     ),
     (
         &["classck", "play", "--dynamic", "K"],
-        Command::Play(Profile::Dynamic),
+        Command::Play(Form::Plain, Profile::Dynamic),
         1,
         "K",
     ),

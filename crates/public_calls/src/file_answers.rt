@@ -110,7 +110,7 @@ fn is_answered_before(
 }
 
 /// Each command, and its answer on K.
-const ANSWERS: [(Command, &[u8]); 7] = [
+const ANSWERS: [(Command, &[u8]); 8] = [
     (Command::Check(Form::Plain, Profile::Default), b"ok\n"),
     (
         Command::Check(Form::Json, Profile::Default),
@@ -128,9 +128,17 @@ const ANSWERS: [(Command, &[u8]); 7] = [
         Command::Verify(Form::Json, Profile::Dynamic),
         b"{\"kind\":\"method\",\"name\":\"f\",\"descriptor\":\"()V\",\"answer\":\"verified\"}\n",
     ),
-    (Command::Play(Profile::Dynamic), b"play verified\n"),
+    (
+        Command::Play(Form::Plain, Profile::Dynamic),
+        b"play verified\n",
+    ),
+    (
+        Command::Play(Form::Json, Profile::Default),
+        b"{\"kind\":\"play\",\"answer\":\"verified\"}\n",
+    ),
     (
         Command::VerifyEach {
+            form: Form::Plain,
             profile: Profile::Default,
             classes: 1,
         },

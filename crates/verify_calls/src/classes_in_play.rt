@@ -6,14 +6,16 @@ use lower_calls::making::{hasher, object};
 use std::alloc::Global;
 use std::test::*;
 use verify::{
-    PlayFault, PlayRule, class_run_breadth, playable_methods_are_safe, verified_is_playable,
-    verify_play,
+    PlayFault, PlayRule, class_run_breadth, heap_run_breadth, playable_methods_are_safe,
+    verified_is_playable, verified_is_playable_with_heap, verify_play,
 };
 
 #[test]
 fn theorem_and_law_are_called() {
     verified_is_playable();
+    verified_is_playable_with_heap();
     class_run_breadth();
+    heap_run_breadth();
     playable_methods_are_safe();
 }
 

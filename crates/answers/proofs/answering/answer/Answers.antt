@@ -70,8 +70,8 @@ returns-in-Play-clause-answered g c =
     let e = split input_view reads read c.in-len1-up.len_at_least c.read-item.is in
     let inputs = input_view read ∷ map input_view (drop 1 reads) in
     let same = viewed v reads ∙ ap reads_of (as_inputs v v reads inputs refl e) in
-    let told : Answered (PlaySays profile (reads_of (map (judged_file profile) inputs))) (held c.args.out.now) (held c.play.new.out) c.play.result =
-    subst (λ rs. Answered (PlaySays profile rs) (held c.args.out.now) (held c.play.new.out) c.play.result) same c.play.ensures in
+    let told : Answered (PlaySays c.in-Play.form profile (reads_of (map (judged_file profile) inputs))) (held c.args.out.now) (held c.play.new.out) c.play.result =
+    subst (λ rs. Answered (PlaySays c.in-Play.form profile rs) (held c.args.out.now) (held c.play.new.out) c.play.result) same c.play.ensures in
     rw e (subst (λ command. Answered (Says command inputs) (held c.args.out.now) (held c.play.new.out) c.play.result) (sym c.in-Play.is) told)
 
 pub returns-in-VerifyEach-clause-answered : goal.returns-in-VerifyEach-clause-answered
@@ -83,8 +83,8 @@ returns-in-VerifyEach-clause-answered g c =
     let n = c.in-VerifyEach.classes in
     let e = split input_view reads read c.in-len1-up.len_at_least c.read-item.is in
     let inputs = input_view read ∷ map input_view (drop 1 reads) in
-    let told : Answered (EachSays profile (reads_of (map (judged_file profile) (take n inputs))) (reads_of (map (known_file profile) (drop n inputs)))) (held c.args.out.now) (held c.verify_each.new.out) c.verify_each.result =
-    subst (λ fs. Answered (EachSays profile (reads_of (map (judged_file profile) (take n fs))) (reads_of (map (known_file profile) (drop n fs)))) (held c.args.out.now) (held c.verify_each.new.out) c.verify_each.result) e c.verify_each.ensures in
+    let told : Answered (EachSays c.in-VerifyEach.form profile (reads_of (map (judged_file profile) (take n inputs))) (reads_of (map (known_file profile) (drop n inputs)))) (held c.args.out.now) (held c.verify_each.new.out) c.verify_each.result =
+    subst (λ fs. Answered (EachSays c.in-VerifyEach.form profile (reads_of (map (judged_file profile) (take n fs))) (reads_of (map (known_file profile) (drop n fs)))) (held c.args.out.now) (held c.verify_each.new.out) c.verify_each.result) e c.verify_each.ensures in
     rw e (subst (λ command. Answered (Says command inputs) (held c.args.out.now) (held c.verify_each.new.out) c.verify_each.result) (sym c.in-VerifyEach.is) told)
 
 pub returns-in-Check-clause-memory : goal.returns-in-Check-clause-memory

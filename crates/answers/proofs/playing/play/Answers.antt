@@ -14,7 +14,7 @@ returns-in-Ok-verify_together_under g c =
     let rs = c.in-Ok-verify_together_under.field-0.items in
     let same : map read_of c.deref.result.now ≡ reads = ap (map read_of) c.deref.ensures.value ∙ c.in-Ok.ensures.found ∙ ap (λ v. map (input_read v) c.args.reads.now) c.judged_versions-versions.ensures in
     let (cs, all, (hierarchy, played)) = subst (λ k. ReportsTogether c.args.profile k rs) same c.in-Ok-verify_together_under.ensures.exactly in
-    answered_more (λ t s. (t ≡ play_verified) × (s ≡ 0)) (PlaySays c.args.profile reads)
+    answered_more (λ t s. (t ≡ play_verified c.args.form) × (s ≡ 0)) (PlaySays c.args.form c.args.profile reads)
     (λ text status p. inr (cs, all, inr (hierarchy, inr (rs, played, p.0, p.1))))
     (held c.args.out.now) (held c.tell.new.out) c.tell.result c.tell.ensures
 

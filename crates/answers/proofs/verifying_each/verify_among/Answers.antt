@@ -2,7 +2,6 @@ use Rattle.std.proofs.Common.{◌≡◌, ◌∙◌, map, inl, inr, ap, subst, sy
 use Rattle.verify.specs.Files.{read_of}
 use Rattle.verify.specs.Each.{JudgesEach, JudgesNone}
 use Rattle.verify.specs.declared.judgements.EachFault.TheVariants.{NoHierarchy}
-use Rattle.answers.specs.declared.command.Form.TheVariants.{Plain}
 use Rattle.answers.specs.Files.{files_view, reads_of}
 use Rattle.answers.specs.Verdicts.{hierarchy_refusal}
 use Rattle.answers.specs.Judgements.{lines_from, EachSays}
@@ -21,7 +20,7 @@ returns-in-Ok-judge_each g c =
     let told : JudgesEach c.args.profile reads known js =
     subst (λ r. JudgesEach c.args.profile r known js) first (subst (λ k. JudgesEach c.args.profile (map read_of c.deref.result.now) k js) second c.in-Ok-judge_each.ensures) in
     let shown = c.deref-in-Ok-judge_each.result.now in
-    answered_more (λ t s. (t ≡ lines_from 1 shown) × (s ≡ c.status.result)) (EachSays c.args.profile reads known)
+    answered_more (λ t s. (t ≡ lines_from c.args.form 1 shown) × (s ≡ c.status.result)) (EachSays c.args.form c.args.profile reads known)
     (λ text status p. inl (shown, subst (JudgesEach c.args.profile reads known) (sym c.deref-in-Ok-judge_each.ensures.value) told, p.0, p.1 ∙ c.status.ensures))
     (held c.args.out.now) (held c.tell.new.out) c.tell.result c.tell.ensures
 
@@ -37,6 +36,6 @@ returns g c =
     subst (JudgesNone (map read_of c.deref.result.now) (map read_of c.deref-2.result.now)) c.in-Err-NoHierarchy.field-0-is c.in-Err-NoHierarchy.ensures in
     let told : JudgesNone reads known (NoHierarchy fault) =
     subst (λ r. JudgesNone r known (NoHierarchy fault)) first (subst (λ k. JudgesNone (map read_of c.deref.result.now) k (NoHierarchy fault)) second raw) in
-    answered_more (λ t s. (t ≡ hierarchy_refusal Plain fault) × (s ≡ 1)) (EachSays c.args.profile reads known)
+    answered_more (λ t s. (t ≡ hierarchy_refusal c.args.form fault) × (s ≡ 1)) (EachSays c.args.form c.args.profile reads known)
     (λ text status p. inr (fault, told, p.0, p.1))
     (held c.args.out.now) (held c.tell-in-Err-NoHierarchy.new.out) c.tell-in-Err-NoHierarchy.result c.tell-in-Err-NoHierarchy.ensures

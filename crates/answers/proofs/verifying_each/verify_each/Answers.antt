@@ -18,5 +18,5 @@ returns g c =
     let parts = parted_as input_view c.args.reads.now front back n c.min.result c.split_at.ensures.front c.split_at.ensures.back (λ le. omega (arith, le, c.min.ensures)) (λ le. omega (arith, le, c.min.ensures)) in
     let first = as_inputs (judged_versions profile) c.judged_versions.result front (take n inputs) c.judged_versions.ensures parts.0 in
     let second = as_inputs (known_versions profile) c.known_versions.result back (drop n inputs) c.known_versions.ensures parts.1 in
-    subst (λ fs. Answered (EachSays profile (reads_of (map (judged_file profile) (take n inputs))) (reads_of fs)) (held c.args.out.now) (held c.verify_among.new.out) c.verify_among.result) second
-    (subst (λ fs. Answered (EachSays profile (reads_of fs) (reads_of (map (input_file c.known_versions.result) back))) (held c.args.out.now) (held c.verify_among.new.out) c.verify_among.result) first c.verify_among.ensures)
+    subst (λ fs. Answered (EachSays c.args.form profile (reads_of (map (judged_file profile) (take n inputs))) (reads_of fs)) (held c.args.out.now) (held c.verify_among.new.out) c.verify_among.result) second
+    (subst (λ fs. Answered (EachSays c.args.form profile (reads_of fs) (reads_of (map (input_file c.known_versions.result) back))) (held c.args.out.now) (held c.verify_among.new.out) c.verify_among.result) first c.verify_among.ensures)

@@ -4,4 +4,4 @@ use Rattle.answers.specs.Judgements.{greater, worst_status}
 use Rattle.answers.proofs.judgements.JudgementsText.status.Given as goal
 
 abbrev pub invariant-loop-judgement : goal.invariant-loop-judgement
-invariant-loop-judgement l = worst_status l.self.0.now ≡ greater l.worst (worst_status (drop l.judgement-index l.self.0.now))
+invariant-loop-judgement l = worst_status l.self.judgements.now ≡ greater l.worst (worst_status (drop l.judgement-index l.self.judgements.now))
