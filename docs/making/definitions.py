@@ -33,14 +33,14 @@ def listed():
     for line in LISTED.read_text().splitlines():
         if line and not line.startswith("#"):
             crate, kind, names = re.fullmatch(r"(\w+) (\w+): (.*)", line).groups()
-            found.setdefault(crate, {}).setdefault(kind, []).extend(re.findall(r"([\w*]+)(?: (\([^)]*\)))?", names))
+            found.setdefault(crate, {}).setdefault(kind, []).extend(re.findall(r"([\w*/]+)(?: (\([^)]*\)))?", names))
     return found
 
 
 def files(crate):
-    """The files of a crate's definitions, by the paths that the page has; Lib.antt and private.antt list others."""
+    """The files of a crate's definitions, by the paths that the page has; Lib.antt and the file of a folder list others."""
     specs = CRATES / crate / "specs"
-    found = [it for it in specs.rglob("*.antt") if it.name not in ("Lib.antt", "private.antt")]
+    found = [it for it in specs.rglob("*.antt") if it.name != "Lib.antt" and not it.with_suffix("").is_dir()]
     return {str(it.relative_to(specs).with_suffix("")): it for it in sorted(found)}
 
 

@@ -1,4 +1,4 @@
-"""The objects that `--json` prints in place of the lines of `check`, `verify` and `explain`, read off these lines, and rows of their escapes."""
+"""The objects that `--json` prints in place of the lines of the commands that have it, read off these lines, and rows of their escapes."""
 import json
 import re
 from dataclasses import replace
@@ -21,7 +21,10 @@ ENDINGS = [
 LINES = [
     (r"(ok)", "file"),
     (r"(refused .*)", "file"),
+    (r"file (\d+)(?: (.*))?", "numbered"),
+    (r"play (verified)", "play"),
     (r"class (refused .*)", "class"),
+    (r"class (\d+) (refused .*)", "class"),
     (r"known (\d+) (refused .*)", "known"),
     (r"hierarchy (refused .*)", "hierarchy"),
     (r"method (.*) (\(.*\).*?) (verified|no code|refused .*)", "method"),
@@ -55,8 +58,11 @@ def ending(kind, number, rest):
 def fields(line):
     """The fields of the object that stands for a line, in their order."""
     found, kind = next((it, kind) for pattern, kind in LINES if (it := re.fullmatch(pattern, line)))
+    if kind == "numbered":
+        yield from (("kind", "file"), ("position", int(found[1])), *([("name", unescaped(found[2]))] if found[2] else []))
+        return
     yield "kind", kind
-    if kind == "known":
+    if kind == "known" or kind == "class" and found.lastindex == 2:
         yield "position", int(found[1])
     if kind == "method":
         yield "name", unescaped(found[1])
@@ -168,8 +174,8 @@ def wanted_of_explained(text):
 
 
 def wanted(text):
-    """The objects that stand for the lines of an answer, as lists of fields."""
-    return [list(fields(line)) for line in text.splitlines()]
+    """The objects that stand for the lines of an answer, as lists of fields: for a method that `play` refuses one of its class, and one of the method."""
+    return [list(fields(it)) for it in re.sub(r"(?m)^(class \d+) (method .*)", r"\1 refused 84\n\2", text).splitlines()]
 
 
 def unlike_schema(pairs):
@@ -243,5 +249,12 @@ def escapes():
     )
     yield "a method with a name in its frame", ["explain", "--json"], [makes, OBJECT_CLASS], explained_object
     yield from parts_at_fault()
+    above = f'{{"kind":"file","position":1,"name":{ESCAPED}}}\n{{"kind":"class","answer":"refused","number":80}}\n'
+    below = replace(K, constants=[*K.constants[:1], utf8(NAME), *K.constants[2:3], utf8(b"L"), *K.constants[4:]]).data()
+    objects = '{"kind":"file","position":2,"name":"java/lang/Object"}\n{"kind":"method","name":"clone","descriptor":"()Ljava/lang/Object;","answer":"no code"}\n'
+    yield "a class of this name in a file", ["verify-each", "--json"], [below, OBJECT_CLASS], above + objects
+    called = replace(K, constants=[*K.constants[:4], utf8(NAME), *K.constants[5:]], methods=[member(0x0009, 5, 6, code_f(b"\0"))]).data()
+    falls = f'{{"kind":"class","position":1,"answer":"refused","number":84}}\n{{"kind":"method","name":{ESCAPED},"descriptor":"()V","answer":"refused","number":71,"at":0}}\n'
+    yield "a method of this name in play", ["play", "--json"], [called, OBJECT_CLASS], falls
     yield "a class", ["check", "--json"], [K.data()], '{"kind":"file","answer":"ok"}\n'
     yield "a method", ["verify", "--json"], [K.data(), OBJECT_CLASS], '{"kind":"method","name":"f","descriptor":"()V","answer":"verified"}\n'

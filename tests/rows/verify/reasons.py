@@ -35,7 +35,8 @@ def in_order():
     """Whether there is an example for each number of a verdict, in their order, and for each other number one or a call."""
     shown = [int(it) for heading in ("Of a class file", "Of code", "Of a list", "Of calls") for row in table(heading) for it in row[0].split(", ")]
     numbers = [int(it) for it in re.findall(r"(?m)^\| (\d+) \| `", PAGE.read_text().partition("\n## ")[0])]
-    return [int(it[0]) for it in rows()] == NUMBERS and sorted(shown + NUMBERS) == numbers
+    others = [int(row[0]) for row in table("With `--release`")]
+    return [int(it[0]) for it in rows()] == NUMBERS and sorted(shown + NUMBERS + [it for it in others if it not in shown + NUMBERS]) == numbers
 
 
 def edited(words):
@@ -72,6 +73,13 @@ def faults():
         yield f"the example of {number}", "verify", [k.data(), OBJECT_CLASS], f"method f ()V refused {78 if nested else 79} at 0 fault {number}"
     for number, classes, line, _ in table("Of a list"):
         yield f"the example of {number}", "verify", [file_of(it) for it in classes.split("; ")], line
+
+
+def faults_of_release():
+    """The examples of rules of form that a release has alone, with it and without."""
+    for number, words, told, _ in table("With `--release`"):
+        yield f"the example of {number}, of a release", "check --release 17", [edited(words)], f"refused {number} {told}"
+        yield f"the example of {number}, of a release", "check", [edited(words)], "ok"
 
 
 def dumped():

@@ -1,8 +1,10 @@
 """Versions of class files, as `--release N` takes them of Java SE N: those of known classes from 45 on, those of classes that are judged from 50 on, up to
 N + 44 (JVMS 4.1, table 4.1-A)."""
 import itertools
+from dataclasses import replace
 
-from tools.assembler import name_and_type, reference, utf8
+from rows.verify.reasons import faults_of_release
+from tools.assembler import member, name_and_type, named, reference, utf8
 from tools.class_k import BYTES, PLAIN_OBJECT, with_constants
 
 RELEASES = (7, 17, 21, 25, 27)
@@ -13,6 +15,21 @@ OLDEST = 51
 HANDLE = (bytes((15, 1, 0, 9)), reference(9, 1, 10), name_and_type(5, 11), utf8("I"))
 VERSION = "BadVersion: the release takes no class of this version here"
 KIND = "WrongKind: an index leads to another kind of constant than it should, or a constant stands in a class of a version that has none of its kind"
+
+CLASS_K = "class K major 52 minor 0 flags 0021\n  super java/lang/Object"
+# Of each example of docs/REFUSALS.md that a release alone refuses: what is said of it, and the part at fault.
+EXPLAINED = {
+    21: (KIND, "constant 8 MethodHandle 1 #9"),
+    22: ("BadName: a name is not of its form, or is none that may stand there", "constant 8 NameAndType #9 #6 < ()V"),
+    24: ("BadFlags: access flags stand together that may not, or one stands without another that it needs", "method 000c f ()V"),
+    25: ("Twice: an earlier field or method has this name and descriptor, or an interface is listed twice", CLASS_K),
+    30: ("AttributeTwice: two attributes stand of a kind of which there may be one", CLASS_K),
+    87: ("BadDebugTable: a row of a debug table passes the code or the local variables, is not of its form, or stands twice", "method 0009 f ()V"),
+    90: (
+        "BadBootstrap: the class has no bootstrap method for the constant, or one whose handle or arguments may not be used",
+        "constant 8 InvokeDynamic 0 #9 f ()V",
+    ),
+}
 
 
 def of_version(data, major, minor=0):
@@ -39,10 +56,31 @@ def releases():
     for major, minor, line in ((50, 3, "ok"), (55, 9, "ok"), (56, 1, "refused 11 56.1"), (65, 65535, "refused 11 65.65535")):
         yield f"K of version {major}.{minor}", "check --release 21", [of_version(BYTES, major, minor)], line
     yield from explained()
+    yield from unformed()
+
+
+def unformed():
+    """An interface whose field is not public, which a release alone refuses, in each command."""
+    plain = named("B", flags=0x0601)
+    files = [replace(plain, constants=[*plain.constants, utf8("I")], fields=[member(0x0018, 2, 5)], major=it).data() for it in (OLDEST, 49)]
+    what, refused = "an interface with a field that is not public", "refused 24 field 0"
+    yield what, "verify --release 17", [files[0], PLAIN_OBJECT], f"class {refused}"
+    yield what, "verify --release 7", [files[0], PLAIN_OBJECT], f"class {refused}"
+    yield what, "show --release 25", files[:1], refused
+    yield what, "play --release 17", [of_version(BYTES, OLDEST), files[0], PLAIN_OBJECT], f"class 2 {refused}"
+    yield what, "play --dynamic", [of_version(BYTES, OLDEST), files[0], PLAIN_OBJECT], "play verified"
+    for number, known in enumerate(files):
+        yield f"K beside {what}, {number}", "verify --release 17", [BYTES, PLAIN_OBJECT, known], f"known 2 {refused}"
+    yield f"K beside {what}", "verify --dynamic", [BYTES, PLAIN_OBJECT, files[0]], "method f ()V verified"
 
 
 def explained():
     """What is said of a version that a release does not take, and of a constant that a version does not have."""
     newer, handle = of_version(BYTES, 66), of_version(with_constants(*HANDLE).data(), 50)
     yield "K of version 66, explained", "explain --release 21", [newer], f"class refused 11 66.0\n  11 {VERSION}"
+    for what, command, files, line in faults_of_release():
+        if command != "check":
+            number = int(line.split()[1])
+            sentence, part = EXPLAINED[number]
+            yield what, "explain --release 21", [*files, PLAIN_OBJECT], f"class {line}\n  {number} {sentence}\n  {part}"
     yield "K of version 50 with a MethodHandle", "explain --release 21", [handle, PLAIN_OBJECT], f"class refused 21 pool 8\n  21 {KIND}\n  constant 8 MethodHandle 1 #9"
