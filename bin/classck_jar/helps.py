@@ -46,7 +46,8 @@ HELPS = {
     78: "write the stack map anew; the fault's number says what is wrong",
     79: "write the code anew",
     81: "compile the class anew with its new superclass",
-    82: "use the member only on objects of the class itself and of classes below it; cast the object if it is one",
+    82: "use the member only on objects of the class itself and of classes below it; cast the object if it is one; make an object of a superclass by a constructor that is public",
+    86: "let the class list the interface itself",
     87: "a tool wrote the class wrongly: use a newer one",
     90: "write the class anew with its attribute BootstrapMethods, with the entry and its number",
 }

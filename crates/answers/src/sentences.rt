@@ -139,6 +139,8 @@ fn reason_sentence(reason: &Reason<'_>) -> &'static str
         Reason::BadCode { .. } => "BadCode: the code is refused at this instruction",
         Reason::ProtectedMember =>
             "ProtectedMember: a protected member of another package is used on an object that is not assignable to the current class",
+        Reason::NotDirectInterface =>
+            "NotDirectInterface: invokespecial calls a method of an interface that is neither the class itself nor one of its direct superinterfaces",
         Reason::BadBootstrap =>
             "BadBootstrap: the class has no bootstrap method for the constant, or one whose handle or arguments may not be used",
     }

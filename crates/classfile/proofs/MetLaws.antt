@@ -6,7 +6,7 @@ use Rattle.pool.specs.declared.fault.PoolFault.{PoolFault}
 use Rattle.pool.specs.Entries.{Entry}
 use Rattle.pool.specs.Lookups.{class_name_at}
 use Rattle.classfile.proofs.Tables.{four}
-use Rattle.classfile.specs.release.ClassRules.{with_name, names_at}
+use Rattle.classfile.specs.Methods.{with_name, names_at}
 use Rattle.classfile.specs.release.Twice.{has_twice}
 
 -- one of the values was met, or stands twice

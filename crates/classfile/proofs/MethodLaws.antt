@@ -14,7 +14,7 @@ use Rattle.pool.specs.Lookups.{text_at}
 use Rattle.pool.specs.ConstantMeanings.{found, class_at}
 use Rattle.classfile.specs.Values.{CodeBody, Attribute, Member}
 use Rattle.classfile.specs.Flags.{has, STATIC}
-use Rattle.classfile.specs.Methods.{JudgedClass, Method, judged_bootstraps, ExceptionEntry, code_of, class_named, superclass_of, declared_fields, exception_entries, stack_map_of, member_type, method_with, method_from, method_of}
+use Rattle.classfile.specs.Methods.{JudgedClass, Method, judged_bootstraps, ExceptionEntry, code_of, class_named, superclass_of, names_at, declared_fields, exception_entries, stack_map_of, member_type, method_with, method_from, method_of}
 use Rattle.classfile.specs.MethodParts.{or_empty, params_in, params_at, method_by_parts, IsMethod}
 use Rattle.classfile.specs.Indices.{on_found}
 use Rattle.classfile.specs.Naming.{is_init as is_init_name}
@@ -53,12 +53,14 @@ with_code code m = record {
   major_version = m.major_version;
   class = m.class;
   superclass = m.superclass;
+  interfaces = m.interfaces;
   fields = m.fields;
   is_static = m.is_static;
   is_init = m.is_init;
   type = m.type;
   bootstraps = m.bootstraps;
   dynamic = m.dynamic;
+  release = m.release;
 }
 
 handed_with :
@@ -104,12 +106,14 @@ assembled c body class entries is_static is_init type = record {
   major_version = c.file.major_version;
   class = class;
   superclass = superclass_of c.file.constant_pool c.file.super_class;
+  interfaces = names_at c.file.constant_pool c.file.interfaces;
   fields = declared_fields c.file.constant_pool c.file.fields;
   is_static = is_static;
   is_init = is_init;
   type = type;
   bootstraps = judged_bootstraps c;
   dynamic = c.dynamic;
+  release = c.file.release;
 }
 
 looked_up : (c : JudgedClass) (number : ℕ) (m : Member) (body : CodeBody) → slice_get c.file.methods number ≡ Some m

@@ -7,7 +7,7 @@ use Rattle.names.specs.Descriptors.{FieldDescriptor, MethodDescriptor}
 use Rattle.names.specs.DescriptorCodes.{coded_type}
 use Rattle.pool.specs.ConstantMeanings.{class_at}
 use Rattle.classfile.specs.Values.{CodeBody, Class}
-use Rattle.classfile.specs.Methods.{JudgedClass, Method, judged_bootstraps, class_named, superclass_of, declared_fields, exception_entries, stack_map_of, code_of, member_type, method_of}
+use Rattle.classfile.specs.Methods.{JudgedClass, Method, judged_bootstraps, class_named, superclass_of, names_at, declared_fields, exception_entries, stack_map_of, code_of, member_type, method_of}
 
 -- none where there is none
 abbrev pub or_empty : {A : Type 0} → Option (List A) → List A
@@ -40,12 +40,14 @@ method_by_parts c number body is_static is_init result code = record {
   major_version = c.file.major_version;
   class = or_empty (class_named (class_at c.file.constant_pool c.file.this_class));
   superclass = superclass_of c.file.constant_pool c.file.super_class;
+  interfaces = names_at c.file.constant_pool c.file.interfaces;
   fields = declared_fields c.file.constant_pool c.file.fields;
   is_static = is_static;
   is_init = is_init;
   type = record { params = params_at c.file number; result = result };
   bootstraps = judged_bootstraps c;
   dynamic = c.dynamic;
+  release = c.file.release;
 }
 
 -- These are the parts of the method of this number. What its code says is only handed on, so that one list stands for

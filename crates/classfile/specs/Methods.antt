@@ -1,12 +1,13 @@
 -- A method with code as its instructions see it (JVMS 4.6, 4.7.3): what its class file says, constants looked up.
-use Rattle.std.specs.Prelude.{◌≡◌, ℕ, Bool, false, not, ◌&&◌, ◌||◌, nat_eq, nat_le, nat_lt, bytes_eq, List, [], ◌∷◌, Option, Some, None, if◌then◌else◌, slice_get, length}
+use Rattle.std.specs.Prelude.{◌≡◌, ℕ, Bool, false, not, ◌&&◌, ◌||◌, nat_eq, nat_le, nat_lt, bytes_eq, List, [], ◌∷◌, Option, Some, None, Result, Ok, Err, if◌then◌else◌, slice_get, length}
 use Rattle.std.specs.Option.{option_and_then}
 use Rattle.names.specs.Descriptors.{MethodDescriptor}
 use Rattle.names.specs.ReferenceTypes.{ReferenceType, class_type}
 use Rattle.names.specs.StandardNames.{init_name, object_name, throwable_name}
 use Rattle.names.specs.Reading.{method_answer}
 use Rattle.pool.specs.Entries.{Entry}
-use Rattle.pool.specs.Lookups.{Named, text_at}
+use Rattle.pool.specs.declared.fault.PoolFault.{PoolFault}
+use Rattle.pool.specs.Lookups.{Named, class_name_at, text_at}
 use Rattle.pool.specs.ConstantMeanings.{found, class_at, FieldConstant}
 use Rattle.classfile.specs.Bootstraps.{BootstrapMethod, bootstraps_of}
 use Rattle.classfile.specs.Flags.{has, STATIC}
@@ -38,6 +39,8 @@ pub record Method (A : Type 0) : Type 0 where
   pub major_version : ℕ
   pub class : List ℕ
   pub superclass : Option (List ℕ)
+  -- the direct superinterfaces
+  pub interfaces : List (List ℕ)
   -- the fields that the class declares
   pub fields : List Named
   pub is_static : Bool
@@ -47,6 +50,8 @@ pub record Method (A : Type 0) : Type 0 where
   pub bootstraps : List BootstrapMethod
   -- `invokedynamic` and dynamic constants are judged, and not refused
   pub dynamic : Bool
+  -- the class is read as a release has it, and all is asked that a virtual machine asks
+  pub release : Bool
 
 -- ---- words about a method
 
@@ -108,6 +113,16 @@ class_named _ = None
 abbrev pub superclass_of : List Entry → ℕ → Option (List ℕ)
 superclass_of pool index = if nat_eq index 0 then None else class_named (class_at pool index)
 
+-- a name, where one was found, in front of others
+abbrev pub with_name : Result (List ℕ) PoolFault → List (List ℕ) → List (List ℕ)
+with_name (Ok name) names = name ∷ names
+with_name (Err e) names = names
+
+-- the names of the classes at these indices
+abbrev pub names_at : List Entry → List ℕ → List (List ℕ)
+names_at pool [] = []
+names_at pool (index ∷ others) = with_name (class_name_at pool index) (names_at pool others)
+
 abbrev pub texts : Option (List ℕ) → Option (List ℕ) → List Named → List Named
 texts (Some name) (Some descriptor) others = record { name = name; descriptor = descriptor } ∷ others
 texts _ _ others = others
@@ -155,12 +170,14 @@ method_with c member code body (Some class) (Some name) (Some type) (Some except
   major_version = c.file.major_version;
   class = class;
   superclass = superclass_of c.file.constant_pool c.file.super_class;
+  interfaces = names_at c.file.constant_pool c.file.interfaces;
   fields = declared_fields c.file.constant_pool c.file.fields;
   is_static = has member.access_flags STATIC;
   is_init = bytes_eq name init_name;
   type = type;
   bootstraps = judged_bootstraps c;
   dynamic = c.dynamic;
+  release = c.file.release;
 })
 method_with c member code body _ _ _ _ = None
 

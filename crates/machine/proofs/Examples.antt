@@ -53,12 +53,14 @@ method act exceptions = record {
   major_version = 52;
   class = codes "K";
   superclass = Some (codes "java/lang/Object");
+  interfaces = [];
   fields = [];
   is_static = true;
   is_init = false;
   type = record { params = []; result = None };
   bootstraps = [];
   dynamic = false;
+  release = false;
 }
 
 abbrev at : ℕ → List Value → Heap → State

@@ -2,7 +2,7 @@
 use Rattle.std.specs.Prelude.{ℕ, List, map, length, option_map}
 use Rattle.names.specs.Types.{type_of}
 use Rattle.pool.specs.ConstantMeanings.{class_at}
-use Rattle.classfile.specs.Methods.{Method, ExceptionEntry, judged_bootstraps, stack_map_of, class_named, superclass_of, declared_fields}
+use Rattle.classfile.specs.Methods.{Method, ExceptionEntry, judged_bootstraps, stack_map_of, class_named, superclass_of, names_at, declared_fields}
 use Rattle.classfile.specs.MethodParts.{or_empty, params_at}
 use Rattle.classfile.specs.Views.{class_view, code_view}
 use Rattle.insn.specs.declared.instruction.Insn as insns
@@ -34,10 +34,12 @@ method_view m =
       major_version = c.major_version;
       class = or_empty (class_named (class_at c.constant_pool c.this_class));
       superclass = superclass_of c.constant_pool c.super_class;
+      interfaces = names_at c.constant_pool c.interfaces;
       fields = declared_fields c.constant_pool c.fields;
       is_static = m.declared.is_static;
       is_init = m.declared.is_init;
       type = record { params = params_at c m.declared.number; result = option_map type_of m.declared.result_type };
       bootstraps = judged_bootstraps (record { file = c; dynamic = m.declared.dynamic });
       dynamic = m.declared.dynamic;
+      release = c.release;
     }

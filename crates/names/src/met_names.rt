@@ -21,6 +21,13 @@ impl<'a> MetNames<'a> {
         }
     }
 
+    /// Whether this name was met.
+    pub fn has(&self, name: &[u8]) -> bool
+        ensures { result ≡ is_met self.now name.now }
+    {
+        self.places.contains_key(name)
+    }
+
     /// Whether this name was met before; now it is met, at this place.
     pub fn meet(&mut self, name: &'a [u8], place: usize) -> Result<bool, AllocError>
         ensures { IfOk result (Meets self.old self.new name.now) }

@@ -51,12 +51,14 @@ method result is_init = record {
   major_version = 52;
   class = codes "K";
   superclass = Some (codes "java/lang/Object");
+  interfaces = [];
   fields = [];
   is_static = false;
   is_init = is_init;
   type = record { params = []; result = result };
   bootstraps = [];
   dynamic = false;
+  release = false;
 }
 
 abbrev frame : List VerificationType → List VerificationType → Bool → FrameFact

@@ -34,7 +34,7 @@ use Rattle.hierarchy.proofs.TextPlaces.{among_of}
 use Rattle.rules.specs.declared.guards.Guards.{Guards}
 use Rattle.rules.specs.declared.guards.Key.{Key}
 use Rattle.rules.specs.declared.guards.Read.{Read}
-use Rattle.rules.specs.Guards.{own_name, IsReference, field, method, is_of, names_own, key_by, other_key, with_texts, read_key, read_entry, IsPlaced, AreReadFrom, HasNumber, Numbers, Reads, AreReadSoFar, AreRead, AreGuards, references_read}
+use Rattle.rules.specs.Guards.{own_name, interface_in, interface_name, name_in, IsReference, field, method, is_of, names_own, key_by, other_key, with_texts, read_key, read_entry, IsPlaced, AreReadFrom, HasNumber, Numbers, Reads, AreReadSoFar, AreRead, AreGuards, references_read}
 use Rattle.rules.specs.Protected.{field_reference, method_reference}
 
 -- ---- the entry that is a reference
@@ -136,6 +136,36 @@ method_entered pool i c class h own of_class =
       entry = subst (λ b. StandsAt pool i (methodref b s.class s.name_and_type)) (is.interface ∙ own) s.entry;
       member = subst (HasMember pool s.class s.name_and_type) is.texts s.member;
       plain = is.plain;
+    }
+
+-- ---- a method of an interface
+
+-- the name of its class stands at an index, to which the constant leads if it is an InterfaceMethodref
+pub record IsNamedAt (pool : List Entry) (i : ℕ) (interface : Bool) (name : List ℕ) : Type 0 where
+  pub index : ℕ
+  pub leads : interface_name pool i ≡ (if interface then Some index else None)
+  pub text : text_at pool index ≡ Ok name
+
+interface_there : (pool : List Entry) (interface : Bool) (class types : ℕ)
+    → interface_in pool (Some (methodref interface class types)) ≡ (if interface then name_in (constant_at pool class) else None)
+interface_there pool true class types = refl
+interface_there pool false class types = refl
+
+pub method_named : (pool : List Entry) (i : ℕ) (c : MethodConstant) (class : List ℕ) → method_at pool i ≡ Some c → c.class ≡ class_type class → IsNamedAt pool i c.interface class
+method_named pool i c class h of_class =
+    let x = found_there method_constant (method_ref_at pool i) c h in
+    let s = method_stands pool i x.0 x.1 in
+    let is = method_is x.0 c class x.2 of_class in
+    let entry = subst (λ b. StandsAt pool i (methodref b s.class s.name_and_type)) is.interface s.entry in
+    let member = subst (HasMember pool s.class s.name_and_type) is.texts s.member in
+    let name = member.class_name.name in
+    record {
+      index = name;
+      leads =
+          ap (λ (z : Result Entry PoolFault). interface_in pool (found z)) (stands_entry pool i (methodref c.interface s.class s.name_and_type) entry)
+          ∙ interface_there pool c.interface s.class s.name_and_type
+          ∙ ap (λ (z : Result Entry PoolFault). if c.interface then name_in (found z) else None) (stands_entry pool s.class (Class name) member.class_name.entry);
+      text = stands_text pool name class member.class_name.text;
     }
 
 entered : (pool : List Entry) (i : ℕ) (r : MemberReference) → IsReference pool i r → IsEntered pool i r

@@ -1,5 +1,5 @@
 -- The member that an instruction uses on an object, by what was looked up for it, and what is judged of it.
-use Rattle.std.proofs.Common.{◌≡◌, ◌∙◌, ℕ, true, false, if◌then◌else◌, List, [], ◌∷◌, length, Option, Some, option_map, Result, refl, sym, ap, subst, arith}
+use Rattle.std.proofs.Common.{◌≡◌, ◌∙◌, ℕ, Bool, true, false, ◌&&◌, if◌then◌else◌, List, [], ◌∷◌, length, Option, Some, None, option_map, Result, refl, sym, ap, subst, arith}
 use Rattle.std.specs.Option.{option_and_then, option_map_or}
 use Rattle.names.specs.ReferenceTypes.{ReferenceType, class_type, array_type, is_class_type}
 use Rattle.pool.specs.ConstantMeanings.{FieldConstant, field_at, MethodConstant, method_at}
@@ -15,10 +15,12 @@ use Rattle.insn.specs.Meanings.{Act}
 use Rattle.frames.specs.FrameFact.{FrameFact}
 use Rattle.rules.specs.declared.naming.Named.{Named}
 use Rattle.rules.specs.declared.reason.Reason.{Reason}
-use Rattle.rules.specs.Guards.{field, method, IsUse}
+use Rattle.rules.specs.Constants.{is_init_name}
+use Rattle.rules.specs.declared.protected_members.Use as uses
+use Rattle.rules.specs.Guards.{field, method, AnswersCall, IsCallUse, IsReference, IsUse, Uses}
 use Rattle.rules.specs.Naming.{field_index, method_index, kept_field, kept_method, IsNamed}
 use Rattle.rules.specs.Outcomes.{Judges}
-use Rattle.rules.specs.Protected.{Use, field_use, method_reference, method_use, used_by, object_answer, object_beneath, object_conditions, use_conditions, member_conditions}
+use Rattle.rules.specs.Protected.{Use, field_use, method_reference, method_use, constructor_use, used_by, object_answer, object_beneath, object_conditions, use_conditions}
 
 module _ (m : Method Act) (a : Act) (n : Named) (is : IsNamed m a n) (i : ℕ) where
   field_there : (f : RawField) → kept_field n ≡ Some f → field_index a ≡ Some i → field_at m.constant_pool i ≡ Some (field_constant_view f)
@@ -45,27 +47,61 @@ module _ (m : Method Act) (a : Act) (n : Named) (is : IsNamed m a n) (i : ℕ) w
         count = omega arith;
       }
 
-  pub calls : (c : RawMethod) → Some (method_constant_view c) ≡ option_map method_constant_view (kept_method n) → a ≡ acts.InvokeVirtual i → (method_constant_view c).interface ≡ false
-      → is_class_type (method_constant_view c).class ≡ true → (above : ℕ) → above ≡ length (method_constant_view c).type.params → IsUse m a i above
-  calls c kept e own of_class above count = by (method_constant_view c).class refl of_class
-    where
-      there : method_at m.constant_pool i ≡ Some (method_constant_view c)
-      there = sym (is.method ∙ ap (λ x. option_and_then (method_at m.constant_pool) (method_index x)) e) ∙ sym kept
+  -- the method that the constant at the index names
+  pub called_there : (c : RawMethod) → Some (method_constant_view c) ≡ option_map method_constant_view (kept_method n) → method_index a ≡ Some i
+      → method_at m.constant_pool i ≡ Some (method_constant_view c)
+  called_there c kept index = sym (is.method ∙ ap (option_and_then (method_at m.constant_pool)) index) ∙ sym kept
 
-      by : (t : ReferenceType) → (method_constant_view c).class ≡ t → is_class_type t ≡ true → IsUse m a i above
+  pub calls : (c : MethodConstant) → method_at m.constant_pool i ≡ Some c → used_by m a ≡ method_use c c.interface c.class → (r : Option uses.Use) → AnswersCall c i r → Uses m a r
+  calls c there same None none = same ∙ none
+  calls c there same (Some u) (index, call) = record {
+    member = call.member;
+    used = same ∙ call.used;
+    named = subst (λ k. IsReference m.constant_pool k call.member.reference) (sym index) (call.named m.constant_pool i there);
+    count = call.count;
+  }
+
+-- ---- the use of a method that is called
+
+module _ (c : MethodConstant) where
+  pub is_call : c.interface ≡ false → is_class_type c.class ≡ true → (above : ℕ) → above ≡ length c.type.params → IsCallUse c above
+  is_call own of_class above count = by c.class refl of_class
+    where
+      by : (t : ReferenceType) → c.class ≡ t → is_class_type t ≡ true → IsCallUse c above
       by (class_type name) q h = record {
-        member = record { reference = method_reference name (method_constant_view c); above = (method_constant_view c).type.params };
-        used =
-            ap (used_by m) e ∙ ap (option_and_then (λ (x : MethodConstant). method_use x x.interface x.class)) there
-            ∙ (λ j. method_use (method_constant_view c) (own j) (q j));
-        named = method (method_constant_view c) name there own q;
+        member = record { reference = method_reference name c; above = c.type.params };
+        used = λ j. method_use c (own j) (q j);
+        named = λ pool index there. method c name there own q;
         count = count;
       }
       by (array_type component) q h = cc
 
+  pub no_call : c.interface ≡ true → method_use c c.interface c.class ≡ None
+  no_call is = ap (λ b. method_use c b c.class) is
+
+  pub no_class_call : is_class_type c.class ≡ false → method_use c c.interface c.class ≡ None
+  no_class_call no = by c.interface c.class no
+    where
+      by : (b : Bool) (t : ReferenceType) → is_class_type t ≡ false → method_use c b t ≡ None
+      by true t h = refl
+      by false (class_type name) h = cc
+      by false (array_type component) h = refl
+
+-- a constructor that is called, as a class of a release calls it
+pub constructs : (m : Method Act) (i : ℕ) (c : MethodConstant) → method_at m.constant_pool i ≡ Some c → m.release ≡ true → is_init_name c ≡ true
+    → used_by m (acts.InvokeSpecial i) ≡ method_use c c.interface c.class
+constructs m i c there release named =
+    ap (option_and_then (constructor_use m.release)) there ∙ (λ j. if release j && named j then method_use c c.interface c.class else None)
+
+-- no other method, and none of a class without a release
+pub constructs_none : (m : Method Act) (i : ℕ) (c : MethodConstant) → method_at m.constant_pool i ≡ Some c → (m.release && is_init_name c) ≡ false
+    → used_by m (acts.InvokeSpecial i) ≡ None
+constructs_none m i c there no =
+    ap (option_and_then (constructor_use m.release)) there ∙ ap (λ b. if b then method_use c c.interface c.class else None) no
+
 pub judged : (classes : List ClassFact) (m : Method Act) (act : Act) (f : FrameFact) (u : Use) (r : Result Unit Reason) → used_by m act ≡ Some u
     → is_guarded classes m.class u.reference ≡ true → (a : Outcome) → a ≡ object_answer classes m.class (object_beneath u f) → Judges (object_conditions a) r
-    → Judges (member_conditions classes m act f) r
+    → Judges (option_map_or (use_conditions classes m f) (used_by m act) []) r
 judged classes m act f u r used guarded a is j =
     subst (λ (o : Option Use). Judges (option_map_or (use_conditions classes m f) o []) r) (sym used)
     (subst (λ b. Judges (if b then object_conditions (object_answer classes m.class (object_beneath u f)) else []) r) (sym guarded)

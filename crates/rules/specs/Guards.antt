@@ -1,14 +1,18 @@
--- Which constants of a class name guarded members, as the program finds it out. Words of the code's own steps.
-use Rattle.std.specs.Prelude.{◌≡◌, ℕ, nat_eq, Bool, false, if◌then◌else◌, List, slice_get, length, map, Option, Some, None, Result, Ok, MatchOption}
+-- Which constants of a class name guarded members, or methods of other interfaces than its direct ones, as the program
+-- finds it out. Words of the code's own steps.
+use Rattle.std.specs.Prelude.{◌≡◌, ℕ, nat_eq, Bool, false, ◌||◌, if◌then◌else◌, List, slice_get, length, map, Option, Some, None, Result, Ok, MatchOption}
+use Rattle.std.specs.List.{list_any}
 use Rattle.std.specs.Option.{option_and_then}
+use Rattle.std.specs.Str.{bytes_eq}
+use Rattle.names.specs.MetNames.{is_met}
 use Rattle.names.specs.ReferenceTypes.{class_type}
 use Rattle.pool.specs.declared.fault.PoolFault.{PoolFault}
-use Rattle.pool.specs.Entries.{Entry, Class, Fieldref, Methodref, NameAndType}
+use Rattle.pool.specs.Entries.{Entry, Class, Fieldref, Methodref, InterfaceMethodref, NameAndType}
 use Rattle.pool.specs.Lookups.{entry_at, text_at}
 use Rattle.pool.specs.ConstantMeanings.{constant_at, class_at, FieldConstant, field_at, MethodConstant, method_at}
 use Rattle.classfile.specs.declared.class_file.ClassFile.{ClassFile}
 use Rattle.classfile.specs.Indices.{on_found}
-use Rattle.classfile.specs.Methods.{Method, class_named}
+use Rattle.classfile.specs.Methods.{Method, class_named, is_name, names_at, superclass_of}
 use Rattle.classfile.specs.MethodParts.{or_empty}
 use Rattle.hierarchy.specs.declared.summary.Kind.{Kind}
 use Rattle.hierarchy.specs.declared.summary.Kind.TheVariants as kinds
@@ -18,11 +22,12 @@ use Rattle.hierarchy.specs.Class.{ClassFact}
 use Rattle.hierarchy.specs.Nearest.{MemberReference, is_guarded}
 use Rattle.hierarchy.specs.Texts.{AreTexts, kept_texts}
 use Rattle.insn.specs.Meanings.{Act}
+use Rattle.rules.specs.declared.direct_classes.DirectClasses.{DirectClasses}
 use Rattle.rules.specs.declared.guards.Guards.{Guards}
 use Rattle.rules.specs.declared.guards.Key.{Key}
 use Rattle.rules.specs.declared.guards.Read.{Read}
 use Rattle.rules.specs.declared.protected_members.Use as uses
-use Rattle.rules.specs.Protected.{Use, field_reference, method_reference, used_by}
+use Rattle.rules.specs.Protected.{Use, field_reference, method_reference, method_use, used_by}
 
 -- the name of the class itself
 abbrev pub own_name : ClassFile → List ℕ
@@ -143,6 +148,18 @@ pub record Surroundings : Type 0 where
 
 -- ---- what an instruction uses
 
+-- a method that is called is used on an object beneath so many operands, whatever constant names it
+pub record IsCallUse (c : MethodConstant) (above : ℕ) : Type 0 where
+  pub member : Use
+  pub used : method_use c c.interface c.class ≡ Some member
+  pub named : (pool : List Entry) (index : ℕ) → method_at pool index ≡ Some c → IsReference pool index member.reference
+  pub count : above ≡ length member.above
+
+-- the use of the method by the constant of this index, if it is one of a class
+abbrev pub AnswersCall : MethodConstant → ℕ → Option uses.Use → Type 0
+AnswersCall c index r =
+    MatchOption r (method_use c c.interface c.class ≡ None) (λ u. (u.index ≡ index) × IsCallUse c u.above)
+
 -- the instruction uses the member that the constant of this index names, on an object beneath so many operands
 pub record IsUse (m : Method Act) (act : Act) (index above : ℕ) : Type 0 where
   pub member : Use
@@ -152,3 +169,30 @@ pub record IsUse (m : Method Act) (act : Act) (index above : ℕ) : Type 0 where
 
 abbrev pub Uses : Method Act → Act → Option uses.Use → Type 0
 Uses m act r = MatchOption r (used_by m act ≡ None) (λ u. IsUse m act u.index u.above)
+
+-- ---- the classes whose methods `invokespecial` may call by an InterfaceMethodref (4.9.2)
+
+-- the class itself, its direct superclass and its direct superinterfaces, by their names
+abbrev pub is_direct_of : ClassFile → List ℕ → Bool
+is_direct_of c name =
+    bytes_eq (own_name c) name
+    || (is_name (superclass_of c.constant_pool c.super_class) name
+    || list_any (λ other. bytes_eq other name) (names_at c.constant_pool (map (λ n. n) c.interfaces.items)))
+
+-- These are the classes. For a text of the pool it is kept whether it names one, where that was asked.
+pub record AreDirect (c : ClassFile) (d : DirectClasses) : Type 0 where
+  pub names : (name : List ℕ) → is_met d.names name ≡ is_direct_of c name
+  pub answers : (place : ℕ) (answer : Bool) (name : List ℕ) → slice_get d.answers.items place ≡ Some (Some answer)
+      → text_at c.constant_pool place ≡ Ok name → answer ≡ is_direct_of c name
+
+abbrev pub name_in : Option Entry → Option ℕ
+name_in (Some (Class name)) = Some name
+name_in _ = None
+
+abbrev pub interface_in : List Entry → Option Entry → Option ℕ
+interface_in pool (Some (InterfaceMethodref class name_and_type)) = name_in (constant_at pool class)
+interface_in pool _ = None
+
+-- the index of the name of the class of an InterfaceMethodref
+abbrev pub interface_name : List Entry → ℕ → Option ℕ
+interface_name pool index = interface_in pool (constant_at pool index)

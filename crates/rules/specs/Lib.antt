@@ -17,3 +17,4 @@ pub mod Unmet
 pub mod UnmetLaws
 pub mod Protected
 pub mod Guards
+pub mod Interfaces

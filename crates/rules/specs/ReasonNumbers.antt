@@ -89,6 +89,10 @@ bad_code = 79
 abbrev pub protected_member : ℕ
 protected_member = 82
 
+-- the interface whose method is called is not the class itself, its superclass or one of its direct superinterfaces
+abbrev pub not_direct_interface : ℕ
+not_direct_interface = 86
+
 -- the class has no bootstrap method for the constant, or one that may not be used
 abbrev pub bad_bootstrap : ℕ
 bad_bootstrap = 90

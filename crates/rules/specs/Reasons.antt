@@ -2,8 +2,8 @@
 use Rattle.std.specs.Prelude.{ℕ}
 use Rattle.frames.specs.Conditions.{Reason as Refusing, reason, class_missing, with_fault}
 use Rattle.rules.specs.declared.reason.Reason.{Reason}
-use Rattle.rules.specs.declared.reason.Reason.TheVariants.{OutOfMemory, NotSupported, MissingOperand, WrongOperand, WrongLocal, LocalOutOfRange, StackOver, WrongConstant, NoFrameAtTarget, NotAssignableAtTarget, NotAssignable, NoFrame, FallsOff, BadException, HandlerNotAssignable, OwnObjectNotReady, ConstructorCovered, WrongReturn, ClassMissing, BadStackMap, BadCode, ProtectedMember, BadBootstrap}
-use Rattle.rules.specs.ReasonNumbers.{out_of_memory, not_supported, missing_operand, wrong_operand, wrong_local, local_out_of_range, stack_over, wrong_constant, no_frame_at_target, not_assignable_at_target, not_assignable, no_frame, falls_off, bad_exception, handler_not_assignable, own_object_not_ready, constructor_covered, wrong_return, absent_class, bad_stack_map, bad_code, protected_member, bad_bootstrap}
+use Rattle.rules.specs.declared.reason.Reason.TheVariants.{OutOfMemory, NotSupported, MissingOperand, WrongOperand, WrongLocal, LocalOutOfRange, StackOver, WrongConstant, NoFrameAtTarget, NotAssignableAtTarget, NotAssignable, NoFrame, FallsOff, BadException, HandlerNotAssignable, OwnObjectNotReady, ConstructorCovered, WrongReturn, ClassMissing, BadStackMap, BadCode, ProtectedMember, NotDirectInterface, BadBootstrap}
+use Rattle.rules.specs.ReasonNumbers.{out_of_memory, not_supported, missing_operand, wrong_operand, wrong_local, local_out_of_range, stack_over, wrong_constant, no_frame_at_target, not_assignable_at_target, not_assignable, no_frame, falls_off, bad_exception, handler_not_assignable, own_object_not_ready, constructor_covered, wrong_return, absent_class, bad_stack_map, bad_code, protected_member, not_direct_interface, bad_bootstrap}
 
 abbrev pub reason_number : Reason → ℕ
 reason_number OutOfMemory = out_of_memory
@@ -28,6 +28,7 @@ reason_number (ClassMissing name) = absent_class
 reason_number (BadStackMap fault) = bad_stack_map
 reason_number (BadCode fault) = bad_code
 reason_number ProtectedMember = protected_member
+reason_number NotDirectInterface = not_direct_interface
 reason_number BadBootstrap = bad_bootstrap
 
 -- the meaning of a reason: the missing class by its name, and the fault of a stack map or of code by its number

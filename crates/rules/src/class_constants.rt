@@ -4,6 +4,7 @@ ghost use Rattle.insn.specs.Views.{act_view};
 ghost use Rattle.rules.specs.Bodies.{method_view};
 ghost use Rattle.rules.specs.Naming.{IsNamed};
 
+use crate::calls::{is_of_class, special_index};
 use crate::members::Members;
 use crate::naming::Named;
 use classfile::{ClassFile, CodeMethod};
@@ -25,6 +26,7 @@ pub struct ClassConstants<'k, 'c, 'a, C: Classes> {
 
 impl<'k, 'c, 'a, C: Classes> ClassConstants<'k, 'c, 'a, C> {
     ghost use Rattle.pool.specs.ConstantMeanings.{field_at};
+    ghost use Rattle.rules.specs.Interfaces.{calls_indirect};
     ghost use Rattle.rules.specs.Naming.{IsNamed, is_own};
 
     /// The constants of a class among these classes, before any of them is looked up.
@@ -63,5 +65,32 @@ impl<'k, 'c, 'a, C: Classes> ClassConstants<'k, 'c, 'a, C> {
         ensures found { IfOk result (IsNamed (method_view method.now) (act_view act.now)) }
     {
         self.members.named(&mut self.types, method, act)
+    }
+
+    /// Whether an instruction of the class with this act calls a method of another interface than the class itself, its
+    /// direct superclass and its direct superinterfaces (JVMS 4.9.2, invokespecial), where the class is read as a release
+    /// has it. The only refusal: memory ran out.
+    pub fn calls_indirect(
+        &mut self,
+        method: &CodeMethod<'_, 'a>,
+        act: &Act<'a>,
+    ) -> Result<bool, AllocError>
+        requires { self.old.members.class ≡ method.now.class.now }
+        ensures same { self.new.members ≡ self.old.members }
+        ensures indirect { IfOk result (λ b. b ≡ calls_indirect (method_view method.now) (act_view act.now)) }
+    {
+        let Some(index) = special_index(act) else {
+            return Ok(false);
+        };
+        if !method.class.release {
+            return Ok(false);
+        }
+        let named = self.named(method, act)?;
+        match named.method() {
+            Some(called) if called.interface && is_of_class(called) => {
+                self.members.is_indirect(method, index)
+            }
+            _ => Ok(false),
+        }
     }
 }

@@ -17,6 +17,7 @@
 //! - `class_constants`: the constants of a class, with the types and members that its instructions name by them.
 //! - `members`: the members among these.
 //! - `guards`: which constants name guarded members.
+//! - `direct_classes`: the classes whose methods `invokespecial` may call by an InterfaceMethodref.
 //! - `protected_members`: on which objects guarded members may be used.
 //! - `declaring_class`: the class that declares the method (the current class), and its superclass.
 //!
@@ -26,7 +27,7 @@
 //! - `specs/Table.antt`: the typing rule of each instruction; `specs/Constants.antt`: of each that names a constant.
 //! - `specs/Naming.antt`: which constant an instruction names.
 //! - `specs/Rules.antt`: the conditions that refuse an instruction; `specs/Protected.antt`: the conditions on protected
-//!   members.
+//!   members; `specs/Interfaces.antt`: the one on the interface whose method `invokespecial` calls.
 //! - `specs/ReasonNumbers.antt`: the numbers of refusals by their names; `specs/Reasons.antt`: those of the code's
 //!   `Reason`.
 //! - `specs/After.antt`: the frame after; `specs/Replacing.antt`: an object whose type is replaced in it.
@@ -42,6 +43,7 @@ mod calls;
 mod class_constants;
 mod constructing;
 mod declaring_class;
+mod direct_classes;
 mod expected;
 mod expected_types;
 mod guards;

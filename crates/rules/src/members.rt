@@ -2,6 +2,7 @@
 //! guarded.
 ghost use Rattle.std.specs.Prelude.{◌≡◌};
 
+use crate::direct_classes::{DirectClasses, interface_name};
 use crate::guards::{Guards, names_own};
 use crate::naming::{Named, is_bootstrapped, is_own, named_by};
 use classfile::{Bootstraps, ClassFile, CodeMethod, OwnFields};
@@ -21,30 +22,34 @@ pub struct Members<'k, 'c, 'a, C: Classes> {
     fields: OwnFields<'c, 'a>,
     bootstraps: Bootstraps<'c, 'a>,
     guards: Option<Guards>,
+    direct: Option<DirectClasses<'a>>,
 }
 
 impl<'k, 'c, 'a, C: Classes> Model for Members<'k, 'c, 'a, C> {
     ghost use Rattle.std.specs.Prelude.{◌≡◌, IfSome};
-    ghost use Rattle.rules.specs.Guards.{AreGuards, Surroundings};
+    ghost use Rattle.rules.specs.Guards.{AreDirect, AreGuards, Surroundings};
 
     ghost Value = { Surroundings };
 
     ghost view = { λ m. record { class = m.class.now; classes = C.content m.classes.now } };
 
     ghost invariant = { λ m. (m.fields ≡ m.class.now) × (m.bootstraps ≡ m.class.now)
-        × IfSome m.guards (AreGuards (C.content m.classes.now) m.class.now) };
+        × IfSome m.guards (AreGuards (C.content m.classes.now) m.class.now)
+        × IfSome m.direct (AreDirect m.class.now) };
 }
 
 impl<'k, 'c, 'a, C: Classes> Members<'k, 'c, 'a, C> {
     ghost use Rattle.std.specs.Prelude.{◌≡◌, ℕ, List, Some, IfOk};
+    ghost use Rattle.names.specs.ReferenceTypes.{is_class_type};
     ghost use Rattle.hierarchy.specs.Answer.{SubclassAnswer, yes_if};
     ghost use Rattle.hierarchy.specs.Nearest.{MemberReference, is_guarded};
     ghost use Rattle.hierarchy.specs.Places.{place_in};
     ghost use Rattle.insn.specs.Views.{act_view};
     ghost use Rattle.rules.specs.Bodies.{method_view};
-    ghost use Rattle.pool.specs.ConstantMeanings.{constant_at, field_at};
+    ghost use Rattle.pool.specs.ConstantMeanings.{constant_at, field_at, MethodConstant, method_at};
     ghost use Rattle.rules.specs.Constants.{is_bootstrapped};
-    ghost use Rattle.rules.specs.Guards.{IsReference, own_name};
+    ghost use Rattle.rules.specs.Guards.{AreDirect, IsReference, own_name};
+    ghost use Rattle.rules.specs.Interfaces.{is_indirect};
     ghost use Rattle.rules.specs.Naming.{IsNamed, is_own};
 
     /// The members of a class among classes, none of which was asked for yet.
@@ -58,6 +63,7 @@ impl<'k, 'c, 'a, C: Classes> Members<'k, 'c, 'a, C> {
             fields: OwnFields::new(alloc, class),
             bootstraps: Bootstraps::new(alloc, class),
             guards: None,
+            direct: None,
         }
     }
 
@@ -148,5 +154,40 @@ impl<'k, 'c, 'a, C: Classes> Members<'k, 'c, 'a, C> {
         let answer = guards.get(index);
         self.guards = Some(guards);
         Ok(answer)
+    }
+
+    /// The class itself, its direct superclass and its direct superinterfaces, which are taken out.
+    fn take_direct(&mut self) -> Result<DirectClasses<'a>, AllocError>
+        ensures same { self.new ≡ self.old }
+        ensures direct { IfOk result (AreDirect self.old.class) }
+    {
+        match self.direct.take() {
+            Some(direct) => Ok(direct),
+            None => DirectClasses::new(self.alloc, self.class),
+        }
+    }
+
+    /// Whether the constant at an index is an InterfaceMethodref of another interface than the class itself, its direct
+    /// superclass and its direct superinterfaces (JVMS 4.9.2), if it is a method of a class. The only refusal: memory
+    /// ran out.
+    pub fn is_indirect(
+        &mut self,
+        method: &CodeMethod<'_, 'a>,
+        index: u16,
+    ) -> Result<bool, AllocError>
+        requires { self.old.class ≡ method.now.class.now }
+        ensures same { self.new ≡ self.old }
+        ensures found { let m = method_view method.now in IfOk result (λ b. (c : MethodConstant)
+            → method_at m.constant_pool index ≡ Some c → is_class_type c.class ≡ true
+            → b ≡ is_indirect m (Some c)) }
+    {
+        let pool = &self.class.constant_pool;
+        let Some(name) = interface_name(pool, index) else {
+            return Ok(false);
+        };
+        let mut direct = self.take_direct()?;
+        let answer = direct.has(pool, name);
+        self.direct = Some(direct);
+        Ok(!answer)
     }
 }

@@ -1,19 +1,21 @@
-//! Members that are protected: on which objects an instruction may use them (JVMS 4.10.1.8).
+//! Members that are protected: on which objects an instruction may use them (JVMS 4.10.1.8, 4.10.1.9).
 ghost use Rattle.hierarchy.specs.Answer.{outcome_of};
 ghost use Rattle.insn.specs.Views.{act_view};
 ghost use Rattle.rules.specs.Bodies.{method_view};
-ghost use Rattle.rules.specs.Guards.{Uses};
+ghost use Rattle.pool.specs.ConstantViews.{method_constant_view};
+ghost use Rattle.rules.specs.Guards.{AnswersCall, Uses};
 ghost use Rattle.rules.specs.Naming.{IsNamed};
 ghost use Rattle.rules.specs.Outcomes.{Judges};
 ghost use Rattle.rules.specs.Protected.{object_conditions};
 
-use crate::calls::is_of_class;
+use crate::calls::{is_init, is_of_class};
 use crate::members::Members;
 use crate::naming::Named;
 use crate::reason::Reason;
 use classfile::CodeMethod;
 use hierarchy::Answer;
 use insn::Act;
+use pool::MethodConstant;
 
 /// The use of a member on an object: the index of its constant, and how many operands stand above the object.
 #[derive(Clone, Copy)]
@@ -22,10 +24,22 @@ pub struct Use {
     pub above: usize,
 }
 
+/// The use of a method that an instruction calls on an object; none of a method of an interface, nor of one that an
+/// array type names.
+fn call_use(index: u16, called: &MethodConstant<'_>) -> Option<Use>
+    ensures { AnswersCall (method_constant_view called.now) index result }
+{
+    if called.interface || !is_of_class(called) {
+        return None;
+    }
+    let above = called.method_type.params.len();
+    Some(Use { index, above })
+}
+
 /// The member that an instruction uses on an object, if it uses one.
-pub fn used_by<'a>(_method: &CodeMethod<'_, 'a>, act: &Act<'a>, named: &Named<'a>) -> Option<Use>
-    requires { IsNamed (method_view _method.now) (act_view act.now) named.now }
-    ensures { Uses (method_view _method.now) (act_view act.now) result }
+pub fn used_by<'a>(method: &CodeMethod<'_, 'a>, act: &Act<'a>, named: &Named<'a>) -> Option<Use>
+    requires { IsNamed (method_view method.now) (act_view act.now) named.now }
+    ensures { Uses (method_view method.now) (act_view act.now) result }
 {
     match *act {
         Act::GetField { index } => {
@@ -36,15 +50,13 @@ pub fn used_by<'a>(_method: &CodeMethod<'_, 'a>, act: &Act<'a>, named: &Named<'a
             named.field()?;
             Some(Use { index, above: 1 })
         }
-        Act::InvokeVirtual { index } => {
+        Act::InvokeVirtual { index } => call_use(index, named.method()?),
+        Act::InvokeSpecial { index } => {
             let called = named.method()?;
-            if called.interface || !is_of_class(called) {
+            if !method.class.release || !is_init(called) {
                 return None;
             }
-            Some(Use {
-                index,
-                above: called.method_type.params.len(),
-            })
+            call_use(index, called)
         }
         _ => None,
     }

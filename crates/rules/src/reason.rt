@@ -52,6 +52,9 @@ pub enum Reason<'a> {
     BadCode { fault: u8 },
     /// 82: a protected member of another package is used on an object that may not be of the current class.
     ProtectedMember,
+    /// 86: the interface whose method `invokespecial` calls is not the class itself, its direct superclass or one of its
+    /// direct superinterfaces (JVMS 4.9.2); of a class that is read as a release has it.
+    NotDirectInterface,
     /// 90: the class has no bootstrap method for the constant, or one that may not be used (JVMS 4.4.10, 4.7.23).
     BadBootstrap,
 }
@@ -84,6 +87,7 @@ impl Reason<'_> {
             Reason::BadStackMap { .. } => 78,
             Reason::BadCode { .. } => 79,
             Reason::ProtectedMember => 82,
+            Reason::NotDirectInterface => 86,
             Reason::BadBootstrap => 90,
         }
     }

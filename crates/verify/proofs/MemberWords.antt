@@ -1,7 +1,7 @@
--- Packages, guarded members and bootstrap methods are what their sections say.
+-- Packages, guarded members, constructors that are used, interfaces and bootstrap methods are what their sections say.
 use Rattle.std.proofs.Common.{◌≡◌, ◌≢◌, ◌==◌, ℕ, Bool, true, false, not, ◌&&◌, ◌||◌, List, [], ◌∷◌, ◌++◌, length, slice_get, Option, Some, None, Result, Ok, Err, if◌then◌else◌, inl, inr, refl, sym, ap, ◌∙◌, subst, eqb-true, eq-eqb}
-use Rattle.std.specs.List.{list_all}
-use Rattle.std.specs.Option.{option_map_or}
+use Rattle.std.specs.List.{list_all, list_any}
+use Rattle.std.specs.Option.{option_and_then, option_map_or}
 use Rattle.std.specs.Str.{bytes_eq}
 use Rattle.std.proofs.lemmas.Slice.Eq.{bytes_eq-Decides}
 use Rattle.pool.specs.declared.fault.PoolFault.{PoolFault}
@@ -19,7 +19,16 @@ use Rattle.hierarchy.proofs.Chain.{shorten}
 use Rattle.hierarchy.proofs.Nearby.{computed}
 use Rattle.hierarchy.proofs.Subclass.{met_chain, chain_met}
 use Rattle.insn.specs.Offsets.{IsAmong}
-use Rattle.verify.specs.MemberWords.{HasNoSlash, IsPackageOf, PackagesAreSaid, IsGuardedFrom, GuardsAreSaid, IsLoadable, integer, float, long, double, class, string, method_handle, method_type, dynamic, HasUsable, BootstrapsAreSaid}
+use Rattle.names.specs.ReferenceTypes.{ReferenceType, class_type, array_type}
+use Rattle.names.specs.StandardNames.{init_name}
+use Rattle.pool.specs.ConstantMeanings.{MethodConstant, method_at}
+use Rattle.classfile.specs.Methods.{Method, is_name}
+use Rattle.insn.specs.Meanings as acts
+use Rattle.insn.specs.Meanings.{Act}
+use Rattle.rules.specs.Constants.{is_init_name}
+use Rattle.rules.specs.Interfaces.{is_direct, is_indirect, calls_indirect}
+use Rattle.rules.specs.Protected.{Use, method_reference, method_use, constructor_use, used_by}
+use Rattle.verify.specs.MemberWords.{IsConstructorUse, ConstructorsAreSaid, CallsOther, InterfacesAreSaid, HasNoSlash, IsPackageOf, PackagesAreSaid, IsGuardedFrom, GuardsAreSaid, IsLoadable, integer, float, long, double, class, string, method_handle, method_type, dynamic, HasUsable, BootstrapsAreSaid}
 
 both : (b c : Bool) → b && c ≡ true → (b ≡ true) × (c ≡ true)
 both true true e = (refl, refl)
@@ -168,6 +177,130 @@ module _ (classes : List ClassFact) (h : IsHierarchy classes) (current : List �
 
 pub guards_are_said : GuardsAreSaid
 guards_are_said classes h current r = (guarded_so classes h current r, so_guarded classes h current r)
+
+-- ---- constructors that are used
+
+one_use : (a b : Use) → Some a ≡ Some b → a ≡ b
+one_use a b e = cc
+
+module _ (m : Method Act) (index : ℕ) (u : Use) where
+  called_use : (c : MethodConstant) → method_at m.constant_pool index ≡ Some c → m.release ≡ true → c.name ≡ init_name → (b : Bool) → c.interface ≡ b → (t : ReferenceType) → c.class ≡ t
+      → method_use c b t ≡ Some u → IsConstructorUse m index u
+  called_use c at r n true i t of e = cc
+  called_use c at r n false i (array_type component) of e = cc
+  called_use c at r n false i (class_type name) of e =
+      let same = one_use (record { reference = method_reference name c; above = c.type.params }) u e in
+      record {
+        release = r;
+        called = c;
+        constant = at;
+        init = n;
+        of_class = i;
+        class = of ∙ ap (λ (z : Use). class_type z.reference.class) same;
+        kind = ap (λ (z : Use). z.reference.kind) (sym same);
+        name = ap (λ (z : Use). z.reference.name) (sym same);
+        descriptor = ap (λ (z : Use). z.reference.descriptor) (sym same);
+        above = ap (λ (z : Use). z.above) (sym same);
+      }
+
+  used_so : (o : Option MethodConstant) → method_at m.constant_pool index ≡ o → option_and_then (constructor_use m.release) o ≡ Some u → IsConstructorUse m index u
+  used_so None at e = cc
+  used_so (Some c) at e = by (m.release && is_init_name c) refl e
+    where
+      by : (b : Bool) → (m.release && is_init_name c) ≡ b → (if b then method_use c c.interface c.class else None) ≡ Some u → IsConstructorUse m index u
+      by true q k =
+          let x = both m.release (is_init_name c) q in
+          called_use c at x.0 (equal c.name init_name x.1) c.interface refl c.class refl k
+      by false q k = cc
+
+  so_used : IsConstructorUse m index u → used_by m (acts.InvokeSpecial index) ≡ Some u
+  so_used k =
+      let c = k.called in
+      let asked : (m.release && is_init_name c) ≡ true = and_both m.release (is_init_name c) k.release ((bytes_eq-Decides c.name init_name).1 k.init) in
+      let whole : record { reference = method_reference u.reference.class c; above = c.type.params } ≡ u =
+      λ i. record {
+        reference = record { class = u.reference.class; kind = sym k.kind i; name = sym k.name i; descriptor = sym k.descriptor i };
+        above = sym k.above i;
+      } in
+      ap (option_and_then (constructor_use m.release)) k.constant
+      ∙ ap (λ b. if b then method_use c c.interface c.class else None) asked
+      ∙ (λ i. method_use c (k.of_class i) (k.class i))
+      ∙ ap (λ (z : Use). Some z) whole
+
+pub constructors_are_said : ConstructorsAreSaid
+constructors_are_said m index u = (used_so m index u (method_at m.constant_pool index) refl, so_used m index u)
+
+-- ---- interfaces
+
+
+listed : (name : List ℕ) (names : List (List ℕ)) → list_any (λ other. bytes_eq other name) names ≡ false → IsAmong name names → ⊥
+listed name [] e i = elim i [ ]
+listed name (n ∷ ns) e (inl p) =
+    let x = or_false (bytes_eq n name) (list_any (λ other. bytes_eq other name) ns) e in
+    true_false (sym ((bytes_eq-Decides n name).1 (sym p)) ∙ x.0)
+listed name (n ∷ ns) e (inr i) = listed name ns (or_false (bytes_eq n name) (list_any (λ other. bytes_eq other name) ns) e).1 i
+
+is_false : (a b : List ℕ) → a ≢ b → bytes_eq a b ≡ false
+is_false a b n = not_true (bytes_eq a b) (is_unequal a b n)
+
+unlisted : (name : List ℕ) (names : List (List ℕ)) → (IsAmong name names → ⊥) → list_any (λ other. bytes_eq other name) names ≡ false
+unlisted name [] n = refl
+unlisted name (x ∷ xs) n = ap (λ b. b || list_any (λ other. bytes_eq other name) xs) (is_false x name (λ e. n (inl (sym e)))) ∙ unlisted name xs (λ i. n (inr i))
+
+no_name : (o : Option (List ℕ)) (name : List ℕ) → is_name o name ≡ false → o ≢ Some name
+no_name None name e p = cc
+no_name (Some other) name e p = let same : other ≡ name = cc in true_false (sym ((bytes_eq-Decides other name).1 same) ∙ e)
+
+another_name : (o : Option (List ℕ)) (name : List ℕ) → o ≢ Some name → is_name o name ≡ false
+another_name None name n = refl
+another_name (Some other) name n = is_false other name (λ e. n (ap (λ z. Some z) e))
+
+module _ (m : Method Act) where
+  called_so : (index : ℕ) (c : MethodConstant) → method_at m.constant_pool index ≡ Some c → m.release ≡ true → c.interface ≡ true → (t : ReferenceType) → c.class ≡ t → not (is_direct m t) ≡ true
+      → CallsOther m (acts.InvokeSpecial index)
+  called_so index c at r i (array_type component) of e = cc
+  called_so index c at r i (class_type name) of e =
+      let x = or_false (bytes_eq m.class name) (is_name m.superclass name || list_any (λ other. bytes_eq other name) m.interfaces) (not_true _ e) in
+      let y = or_false (is_name m.superclass name) (list_any (λ other. bytes_eq other name) m.interfaces) x.1 in
+      record {
+        release = r;
+        index = index;
+        special = refl;
+        called = c;
+        constant = at;
+        interface = i;
+        name = name;
+        class = of;
+        not_own = unequal m.class name x.0;
+        not_above = no_name m.superclass name y.0;
+        not_listed = listed name m.interfaces y.1;
+      }
+
+  at_index : (index : ℕ) (o : Option MethodConstant) → method_at m.constant_pool index ≡ o → (m.release && is_indirect m o) ≡ true → CallsOther m (acts.InvokeSpecial index)
+  at_index index None at e = absurd (true_false (sym (both m.release false e).1))
+  at_index index (Some c) at e =
+      let x = both m.release (is_indirect m (Some c)) e in
+      let y = both c.interface (not (is_direct m c.class)) x.1 in
+      called_so index c at x.0 y.0 c.class refl y.1
+
+  other_so : (act : Act) → calls_indirect m act ≡ true → CallsOther m act
+  other_so (acts.InvokeSpecial index) e = at_index index (method_at m.constant_pool index) refl e
+  other_so act e = cc
+
+  so_other : (act : Act) → CallsOther m act → calls_indirect m act ≡ true
+  so_other act k =
+      let c = k.called in
+      let apart : is_direct m c.class ≡ false =
+      ap (is_direct m) k.class
+      ∙ ap (λ b. b || (is_name m.superclass k.name || list_any (λ other. bytes_eq other k.name) m.interfaces)) (is_false m.class k.name k.not_own)
+      ∙ ap (λ b. b || list_any (λ other. bytes_eq other k.name) m.interfaces) (another_name m.superclass k.name k.not_above)
+      ∙ unlisted k.name m.interfaces k.not_listed in
+      ap (calls_indirect m) k.special
+      ∙ ap (λ o. m.release && is_indirect m o) k.constant
+      ∙ and_both m.release (is_indirect m (Some c)) k.release (and_both c.interface (not (is_direct m c.class)) k.interface (ap not apart))
+
+pub interfaces_are_said : InterfacesAreSaid
+interfaces_are_said m act = (other_so m act, so_other m act)
 
 -- ---- bootstrap methods
 

@@ -3,6 +3,8 @@ use Rattle.std.proofs.Common.{◌≡◌, Bool, true, false, ◌&&◌, is_none, n
 use Rattle.std.proofs.lemmas.Bool.Decides.{nat_tests}
 use Rattle.insn.specs.Meanings as acts
 use Rattle.insn.specs.Meanings.{Act, made_index}
+use Rattle.classfile.specs.Methods.{Method}
+use Rattle.rules.specs.Interfaces.{calls_indirect}
 use Rattle.rules.specs.Naming.{names_nothing}
 use Rattle.rules.specs.Ways.{goes_on, branch_offsets, is_plain, special_index}
 use Rattle.verify.specs.private.pass.Objects.{used_index}
@@ -29,11 +31,16 @@ first_three a e = left_holds (first_two a && is_none (made_index a)) (names_noth
 pub nowhere : (a : Act) → is_plain a ≡ true → branch_offsets a ≡ []
 nowhere a e = is_nil (branch_offsets a) (right_holds (goes_on a) (nat_eq (length (branch_offsets a)) 0) (left_holds (first_two a) (is_none (made_index a)) (first_three a e)))
 
-pub uses_none : (a : Act) → is_plain a ≡ true → used_index a ≡ None
-uses_none (acts.GetField i) e = cc
-uses_none (acts.PutField i) e = cc
-uses_none (acts.InvokeVirtual i) e = cc
-uses_none a e = refl
+pub direct_none : (m : Method Act) (a : Act) → is_plain a ≡ true → calls_indirect m a ≡ false
+direct_none m (acts.InvokeSpecial i) e = cc
+direct_none m a e = refl
+
+pub uses_none : (release : Bool) (a : Act) → is_plain a ≡ true → used_index release a ≡ None
+uses_none release (acts.GetField i) e = cc
+uses_none release (acts.PutField i) e = cc
+uses_none release (acts.InvokeVirtual i) e = cc
+uses_none release (acts.InvokeSpecial i) e = cc
+uses_none release a e = refl
 
 pub calls_none : (a : Act) → is_plain a ≡ true → special_index a ≡ None
 calls_none (acts.InvokeSpecial i) e = cc

@@ -12,10 +12,10 @@ use Rattle.pool.specs.declared.fault.PoolFault.{PoolFault}
 use Rattle.pool.specs.Entries.{Entry}
 use Rattle.pool.specs.Lookups.{Named, HasText, HasClassName, text_at, class_name_at}
 use Rattle.pool.specs.ConstantMeanings.{found, class_at}
-use Rattle.pool.proofs.LookupLaws.{text_stands, stands_text, class_stands}
+use Rattle.pool.proofs.LookupLaws.{text_stands, stands_text, class_stands, stands_class}
 use Rattle.classfile.specs.Flags.{has, STATIC}
 use Rattle.classfile.specs.Values.{Handler, CodeBody, Member}
-use Rattle.classfile.specs.Methods.{JudgedClass, Method, ExceptionEntry, IsEntry, code_of, class_named, superclass_of, texts, declared_fields, caught_type, entry_with, exception_entries, member_type, method_with, method_from}
+use Rattle.classfile.specs.Methods.{JudgedClass, Method, ExceptionEntry, IsEntry, code_of, class_named, superclass_of, with_name, names_at, texts, declared_fields, caught_type, entry_with, exception_entries, member_type, method_with, method_from}
 use Rattle.insn.specs.Meanings.{Act}
 use Rattle.insn.specs.Offsets.{acts, IsAmong}
 use Rattle.verify.specs.ClassMethods.{IsMethod}
@@ -96,6 +96,31 @@ module _ (pool : List Entry) where
   so_declared (g ∷ fs) n f (inl e) a d = here_it_is g (declared_fields pool fs) n (subst (λ z. HasText pool z.name n.name) e a) (subst (λ z. HasText pool z.descriptor n.descriptor) e d)
   so_declared (g ∷ fs) n f (inr i) a d = kept (found (text_at pool g.name)) (found (text_at pool g.descriptor)) (declared_fields pool fs) n (so_declared fs n f i a d)
 
+  -- ---- superinterfaces
+
+  abbrev Lists : List ℕ → List ℕ → Type 0
+  Lists indices name = (index : ℕ) × IsAmong index indices × HasClassName pool index name
+
+  listed_so : (indices : List ℕ) (name : List ℕ) → IsAmong name (names_at pool indices) → Lists indices name
+  listed_so [] name i = elim i [ ]
+  listed_so (index ∷ others) name i = by (class_name_at pool index) refl (listed_so others name) i
+    where
+      by : (r : Result (List ℕ) PoolFault) → class_name_at pool index ≡ r → (IsAmong name (names_at pool others) → Lists others name) → IsAmong name (with_name r (names_at pool others)) → Lists (index ∷ others) name
+      by (Ok text) q more (inl e) = (index, inl refl, class_stands pool index name (q ∙ ap Ok (sym e)))
+      by (Ok text) q more (inr j) = let x = more j in (x.0, inr x.1, x.2)
+      by (Err x) q more j = let x = more j in (x.0, inr x.1, x.2)
+
+  still_listed : (r : Result (List ℕ) PoolFault) (names : List (List ℕ)) (name : List ℕ) → IsAmong name names → IsAmong name (with_name r names)
+  still_listed (Ok text) names name i = inr i
+  still_listed (Err x) names name i = i
+
+  so_listed : (indices : List ℕ) (name : List ℕ) (index : ℕ) → IsAmong index indices → HasClassName pool index name → IsAmong name (names_at pool indices)
+  so_listed [] name index i h = elim i [ ]
+  so_listed (first ∷ others) name index (inl e) h =
+      let here : class_name_at pool first ≡ Ok name = ap (class_name_at pool) (sym e) ∙ stands_class pool index name h in
+      subst (λ (r : Result (List ℕ) PoolFault). IsAmong name (with_name r (names_at pool others))) (sym here) (inl refl)
+  so_listed (first ∷ others) name index (inr i) h = still_listed (class_name_at pool first) (names_at pool others) name (so_listed others name index i h)
+
   -- ---- exception tables
 
   abbrev Of : List Handler → ExceptionEntry → Type 0
@@ -150,7 +175,9 @@ record Seen (c : JudgedClass) (member : Member) (body : CodeBody) (name : List �
   class_is : class_named (class_at c.file.constant_pool c.file.this_class) ≡ Some m.class
   entries : exception_entries c.file.constant_pool body.exception_table ≡ Some m.exceptions
   super : m.superclass ≡ superclass_of c.file.constant_pool c.file.super_class
+  interfaces : m.interfaces ≡ names_at c.file.constant_pool c.file.interfaces
   fields : m.fields ≡ declared_fields c.file.constant_pool c.file.fields
+  release : m.release ≡ c.file.release
   static : m.is_static ≡ has member.access_flags STATIC
   init : m.is_init ≡ bytes_eq name init_name
   stack : m.max_stack ≡ body.max_stack
@@ -170,7 +197,9 @@ by_parts c member code body (Some k) (Some name) (Some type) (Some exceptions) m
         class_is = p ∙ ap (λ z. Some z.class) x;
         entries = r ∙ ap (λ z. Some z.exceptions) x;
         super = sym (ap (λ z. z.superclass) x);
+        interfaces = sym (ap (λ z. z.interfaces) x);
         fields = sym (ap (λ z. z.fields) x);
+        release = sym (ap (λ z. z.release) x);
         static = sym (ap (λ z. z.is_static) x);
         init = sym (ap (λ z. z.is_init) x);
         stack = sym (ap (λ z. z.max_stack) x);
@@ -194,12 +223,14 @@ is_seen c member body name m s =
     record {
       class = has_class pool c.file.this_class m.class s.class_is;
       superclass = λ n e. has_superclass pool c.file.super_class n (sym s.super ∙ e);
+      interfaces = λ n. (λ i. listed_so pool c.file.interfaces n (subst (IsAmong n) s.interfaces i), λ k. subst (IsAmong n) (sym s.interfaces) (so_listed pool c.file.interfaces n k.0 k.1 k.2));
       static = (λ e. sym s.static ∙ e, λ e. s.static ∙ e);
       init = (to, from);
       max_stack = s.stack;
       max_locals = s.locals;
       exceptions = λ e. (table_so pool body.exception_table m.exceptions s.entries e, λ k. so_table pool body.exception_table m.exceptions s.entries e k.0 k.1 k.2);
       fields = λ n. (λ i. declared_so pool c.file.fields n (subst (IsAmong n) s.fields i), λ k. subst (IsAmong n) (sym s.fields) (so_declared pool c.file.fields n k.0 k.1 k.2 k.3));
+      release = s.release;
     }
   where
     to : m.is_init ≡ true → HasText c.file.constant_pool member.name init_name

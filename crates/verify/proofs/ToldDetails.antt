@@ -25,7 +25,7 @@ use Rattle.rules.proofs.FoundOperands.{holds, among_holds, found_missing, found_
 use Rattle.verify.specs.InitialFrames.{initial_types, initial_frame}
 use Rattle.verify.specs.TypeSafety.{Frames, caught_frame}
 use Rattle.verify.specs.Verdict.{MapRefusal, Verdict, refused, answer_conditions, table_conditions, table_judged, at_conditions, code_judged, frames_declared, with_frames}
-use Rattle.verify.specs.Breaks.{Holds, Meets, Target, Covering, Breaks, rule, no_frame_at_target, not_assignable_at_target, missing_at_target, protected_member, missing_object, no_frame_at_handler, not_assignable_at_handler, missing_at_handler, falls_off, constructor_covered, BreaksEntry, covers_nothing, no_start, no_end, no_handler, no_handler_frame, no_throwable, missing_class}
+use Rattle.verify.specs.Breaks.{Holds, Meets, Target, Covering, Breaks, rule, no_frame_at_target, not_assignable_at_target, missing_at_target, protected_member, not_direct, missing_object, no_frame_at_handler, not_assignable_at_handler, missing_at_handler, falls_off, constructor_covered, BreaksEntry, covers_nothing, no_start, no_end, no_handler, no_handler_frame, no_throwable, missing_class}
 use Rattle.verify.specs.DifferencesAt.{target_difference, handler_difference, at_targets, first_refused, first_covering}
 use Rattle.verify.specs.Details.{arriving, taken, target, handler, entry as entry_at, arriving_if, refused_if, covering_if, unmet_if, target_if, handler_if}
 use Rattle.verify.specs.Coming.{FramesFact, frames_with, before, frame_if, going, met, frames_at}
@@ -241,6 +241,7 @@ module _ (classes : List ClassFact) (m : Method Act) (frames : Frames) (full : (
         tells n 68 is (target_told x to i y fine)
     by_field sound high (missing_at_target name e x to i y) = missing_clash n name e
     by_field sound high (protected_member e g x) = untold n 82 refl t e
+    by_field sound high (not_direct e x) = untold n 86 refl t e
     by_field sound high (missing_object name e g x) = missing_clash n name e
     by_field sound high (no_frame_at_handler e x y) = let d = sound x.e x.among in absurd (y d.0 d.1)
     by_field sound high (not_assignable_at_handler e x y) = tells n 73 (same_number n 73 e) (handler_told x y)

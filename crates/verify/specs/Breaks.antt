@@ -19,6 +19,7 @@ use Rattle.rules.specs.TypingRules.{TypingRule, falls, targets}
 use Rattle.rules.specs.Table.{TypingRules}
 use Rattle.rules.specs.After.{after}
 use Rattle.rules.specs.Rules.{constructs_own, conditions}
+use Rattle.rules.specs.Interfaces.{calls_indirect}
 use Rattle.rules.specs.Protected.{Use, used_by, object_beneath, object_answer}
 use Rattle.verify.specs.InitialFrames.{initial_types, initial_frame}
 use Rattle.verify.specs.TypeSafety.{Frames, Declares, caught_frame, IsSoundEntry}
@@ -78,6 +79,8 @@ pub data Breaks (classes : List ClassFact) (m : Method Act) (frames : Frames) (a
   protected_member : why ≡ reason 82 → (g : Guarded classes m act)
       → object_answer classes m.class (object_beneath g.member f) ≡ no
       → Breaks classes m frames at act p next f why
+  -- 86, a method of an interface is called that is no direct one
+  not_direct : why ≡ reason 86 → calls_indirect m act ≡ true → Breaks classes m frames at act p next f why
   -- 77, the answer needs a class which is missing
   missing_object : (name : List ℕ) → why ≡ class_missing name → (g : Guarded classes m act)
       → object_answer classes m.class (object_beneath g.member f) ≡ missing name

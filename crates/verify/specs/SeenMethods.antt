@@ -1,6 +1,6 @@
--- A method with code is seen as its class file has it (JVMS 4.1, 4.5, 4.6, 4.7.3): its class and superclass, whether it
--- is static and a constructor, its limits, its exception table and the fields of its class, each by the texts and the
--- flags of the class file. Rules and machine look at what is seen alone.
+-- A method with code is seen as its class file has it (JVMS 4.1, 4.5, 4.6, 4.7.3): its class, superclass and direct
+-- superinterfaces, whether it is static and a constructor, its limits, its exception table and the fields of its class,
+-- each by the texts and the flags of the class file. Rules and machine look at what is seen alone.
 use Rattle.std.specs.Prelude.{◌≡◌, ◌↔◌, ℕ, true, List, Some, slice_get}
 use Rattle.names.specs.StandardNames.{init_name}
 use Rattle.pool.specs.Lookups.{Named, HasText, HasClassName}
@@ -17,6 +17,10 @@ DeclaresField c n =
     (f : Member) × IsAmong f c.file.fields × HasText c.file.constant_pool f.name n.name
     × HasText c.file.constant_pool f.descriptor n.descriptor
 
+-- the class lists an interface of this name
+abbrev pub ListsInterface : JudgedClass → List ℕ → Type 0
+ListsInterface c name = (index : ℕ) × IsAmong index c.file.interfaces × HasClassName c.file.constant_pool index name
+
 -- an entry of the exception table, with the class that it catches looked up
 abbrev pub IsOfTable : JudgedClass → CodeBody → ExceptionEntry → Type 0
 IsOfTable c body e = (h : Handler) × IsAmong h body.exception_table × IsEntry c.file.constant_pool h e
@@ -25,12 +29,14 @@ pub record IsSeen (c : JudgedClass) (member : Member) (body : CodeBody) (m : Met
   pub class : HasClassName c.file.constant_pool c.file.this_class m.class
   pub superclass : (name : List ℕ) → m.superclass ≡ Some name
       → HasClassName c.file.constant_pool c.file.super_class name
+  pub interfaces : (name : List ℕ) → IsAmong name m.interfaces ↔ ListsInterface c name
   pub static : (m.is_static ≡ true) ↔ (has member.access_flags STATIC ≡ true)
   pub init : (m.is_init ≡ true) ↔ HasText c.file.constant_pool member.name init_name
   pub max_stack : m.max_stack ≡ body.max_stack
   pub max_locals : m.max_locals ≡ body.max_locals
   pub exceptions : (e : ExceptionEntry) → IsAmong e m.exceptions ↔ IsOfTable c body e
   pub fields : (n : Named) → IsAmong n m.fields ↔ DeclaresField c n
+  pub release : m.release ≡ c.file.release
 
 abbrev pub MethodsAreSeen : Type 0
 MethodsAreSeen =

@@ -77,7 +77,7 @@ pub record IsTypeSafeAt (classes : List ClassFact) (m : Method Act) (frames : Fr
     (act : Act) (p : TypingRule) : Type 0 where
   pub rule : NoneHolds (conditions classes m at p (table at))
   -- a protected member of another package and of a class above the current one is used only on objects of the current
-  -- class (4.10.1.8)
+  -- class (4.10.1.8), and of an interface that is no direct one no method is called by invokespecial (4.9.2)
   pub protected : NoneHolds (member_conditions classes m act (table at))
   pub leads : (target : ℤ) → IsAmong target (targets at p)
       → LeadsToTarget classes frames (after m at p (table at)) target

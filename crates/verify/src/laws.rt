@@ -7,7 +7,7 @@ ghost use Rattle.verify.specs.FitsBreadth.{FitsBreadth};
 ghost use Rattle.verify.specs.ClassRunBreadth.{ClassRunBreadth};
 ghost use Rattle.verify.specs.HeapRunBreadth.{EachMomentIsSafe, HeapRunBreadth};
 ghost use Rattle.verify.specs.PlayableMethods.{AllAreInPlay, PlayableIsSafe};
-ghost use Rattle.verify.specs.MemberWords.{BootstrapsAreSaid, GuardsAreSaid, PackagesAreSaid};
+ghost use Rattle.verify.specs.MemberWords.{BootstrapsAreSaid, ConstructorsAreSaid, GuardsAreSaid, InterfacesAreSaid, PackagesAreSaid};
 ghost use Rattle.verify.specs.SeenMethods.{MethodsAreSeen};
 ghost use Rattle.verify.specs.JudgedFrames.{FramesAreJudged};
 ghost use Rattle.verify.specs.OneVerdict.{OneVerdict, OneReport, OneFrames};
@@ -122,16 +122,19 @@ pub fn playable_methods_are_safe()
     ensures safe { PlayableIsSafe }
 {}
 
-/// The words on which 82 and 90 rest mean what the standard says: the package of a class by its name, the members that a
-/// class may use on its own objects alone, and the bootstrap methods that may be used.
+/// The words on which 82, 86 and 90 rest mean what the standard says: the package of a class by its name, the members
+/// that a class may use on its own objects alone, the constructors that are such members, the interfaces whose methods
+/// `invokespecial` may not call, and the bootstrap methods that may be used.
 pub fn member_words_are_said()
     ensures packages { PackagesAreSaid }
     ensures guards { GuardsAreSaid }
+    ensures constructors { ConstructorsAreSaid }
+    ensures interfaces { InterfacesAreSaid }
     ensures bootstraps { BootstrapsAreSaid }
 {}
 
-/// A method with code is seen as its class file has it: its class and superclass, its flags and its name, its limits, its
-/// exception table, and the fields of its class.
+/// A method with code is seen as its class file has it: its class, superclass and direct superinterfaces, its flags and
+/// its name, its limits, its exception table, and the fields of its class.
 pub fn methods_are_seen()
     ensures { MethodsAreSeen }
 {}

@@ -219,7 +219,8 @@ def faulty():
 
 def explained():
     """Each row: what it is, the files, and the whole text that `explain` prints."""
-    for (what, files, _), lines in zip(reasons(), METHODS.strip().splitlines(), strict=True):
+    without_an_option = [it for it in reasons() if it[1] == "verify"]
+    for (what, _, files, _), lines in zip(without_an_option, METHODS.strip().splitlines(), strict=True):
         yield what, files, text(lines.split("|"))
     for what, command, files, line in faults():
         number = int(what.split()[-1])

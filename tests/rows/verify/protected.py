@@ -4,13 +4,13 @@ from dataclasses import replace
 
 from rows.verify.handlers import handler
 from rows.verify.references import Constants, assembled
-from tools.assembler import STATIC, attribute, member, named, utf8
+from tools.assembler import NATIVE, STATIC, attribute, code_attribute, code_of, member, named, utf8
 from tools.class_k import K, OBJECT_CLASS, code_f, method_f
 from tools.stack_maps import stack_map_of
 
 SERIALIZABLE = "java/io/Serializable"
 # A member: its flags, its kind, its name and its descriptor.
-MEMBER = re.compile(r"(?:\w+ )+(?:field|method) \w+ \S+?(?=; |$)")
+MEMBER = re.compile(r"(?:\w+ )+(?:field|method) (?:\w+|<init>) \S+?(?=; |$)")
 FLAGS = {"public": 1, "private": 2, "protected": 4, "package": 0, "static": 8}
 
 # Known classes by their names, each with its superclass and its members. B and D are absent.
@@ -134,12 +134,14 @@ def known(words):
     head, _, members = words.partition(":")
     name, above = head.split(" below ")
     k = named(name, above=above)
-    constants, parts = list(k.constants), {"field": [], "method": []}
+    constants, parts = [*k.constants, utf8("Code")], {"field": [], "method": []}
+    # A constructor that throws null calls no other one first.
+    code = code_attribute(len(constants), code_of("aconst_null; athrow"), stack=1, variables=4)
     for it in MEMBER.findall(members):
         *flags, kind, called, descriptor = it.split()
         constants += [utf8(called), utf8(descriptor)]
-        native = 0x0100 if kind == "method" else 0
-        parts[kind].append(member(native + sum(FLAGS[f] for f in flags), len(constants) - 1, len(constants)))
+        native, codes = (0, [code]) if called == "<init>" else (NATIVE if kind == "method" else 0, [])
+        parts[kind].append(member(native + sum(FLAGS[f] for f in flags), len(constants) - 1, len(constants), *codes))
     return replace(k, constants=constants, fields=parts["field"], methods=parts["method"]).data()
 
 

@@ -11,9 +11,9 @@ from tools.places import DOCS
 from tools.stack_maps import stack_map_of
 
 PAGE = DOCS / "REFUSALS.md"
-NUMBERS = [*range(60, 80), 82, 90]
-# Numbers that --dynamic alone tells.
-OF_DYNAMIC = {90}
+NUMBERS = [*range(60, 80), 82, 86, 90]
+# The options with which alone a number is told.
+OPTIONS = {"86": " --release 17", "90": " --dynamic"}
 
 
 def table(heading):
@@ -93,12 +93,9 @@ def dumped():
     return data if is_placed else None
 
 
-def reasons(dynamic=False):
-    """Each example that is told without --dynamic, or each that is told with it alone: its name, the files of the class that
-    has it alone, and the line of it."""
+def reasons():
+    """Each example of a method: its name, the command, the files of the class that has it alone, and the line of it."""
     for number, words, code, parts, told in rows():
-        if (int(number) in OF_DYNAMIC) != dynamic:
-            continue
         name, descriptor, stack, variables = words.split()
         body, _, entry = (it.strip() for it in parts.partition("entry"))
         constants = Constants(descriptor, name)
@@ -109,4 +106,4 @@ def reasons(dynamic=False):
             code_f(data, stack=int(stack), variables=int(variables), handlers=handlers, nested=nested), flags=0 if name == "<init>" else STATIC
         )
         k = replace(K, constants=constants.items, methods=[method])
-        yield f"the example of {number}", [k.data(), *KNOWN], f"method {name} {descriptor} refused {number} {told}"
+        yield f"the example of {number}", f"verify{OPTIONS.get(number, '')}", [k.data(), *KNOWN], f"method {name} {descriptor} refused {number} {told}"

@@ -3,7 +3,7 @@ N + 44 (JVMS 4.1, table 4.1-A)."""
 import itertools
 from dataclasses import replace
 
-from rows.verify.reasons import faults_of_release
+from rows.verify.reasons import faults_of_release, reasons
 from tools.assembler import member, name_and_type, named, reference, utf8
 from tools.class_k import BYTES, PLAIN_OBJECT, with_constants
 
@@ -16,6 +16,13 @@ HANDLE = (bytes((15, 1, 0, 9)), reference(9, 1, 10), name_and_type(5, 11), utf8(
 VERSION = "BadVersion: the release takes no class of this version here"
 KIND = "WrongKind: an index leads to another kind of constant than it should, or a constant stands in a class of a version that has none of its kind"
 
+# Of the example of a method that a release alone refuses, what is said of it.
+INDIRECT = """86 NotDirectInterface: invokespecial calls a method of an interface that is neither the class itself nor one of its direct superinterfaces
+  stack 1 locals 0
+  1 invokespecial #13
+  constant 13 InterfaceMethodref #9 #12 I f ()V
+  locals
+  stack null"""
 CLASS_K = "class K major 52 minor 0 flags 0021\n  super java/lang/Object"
 # Of each example of docs/REFUSALS.md that a release alone refuses: what is said of it, and the part at fault.
 EXPLAINED = {
@@ -83,4 +90,7 @@ def explained():
             number = int(line.split()[1])
             sentence, part = EXPLAINED[number]
             yield what, "explain --release 21", [*files, PLAIN_OBJECT], f"class {line}\n  {number} {sentence}\n  {part}"
+    for what, command, files, line in reasons():
+        if " refused 86 " in line:
+            yield what, command.replace("verify", "explain"), files, f"{line}\n  {INDIRECT}"
     yield "K of version 50 with a MethodHandle", "explain --release 21", [handle, PLAIN_OBJECT], f"class refused 21 pool 8\n  21 {KIND}\n  constant 8 MethodHandle 1 #9"

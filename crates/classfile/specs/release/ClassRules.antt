@@ -1,32 +1,21 @@
 -- The class itself: its interfaces (JVMS 4.1), and its attributes (4.7.28 to 4.7.31).
-use Rattle.std.specs.Prelude.{ℕ, Bool, ◌&&◌, ◌||◌, List, [], ◌∷◌, Result, Ok, Err}
+use Rattle.std.specs.Prelude.{ℕ, Bool, ◌&&◌, ◌||◌, List, [], ◌∷◌}
 use Rattle.std.specs.List.{list_any}
 use Rattle.std.specs.Option.{is_some}
 use Rattle.std.specs.Str.{bytes_eq}
-use Rattle.pool.specs.declared.fault.PoolFault.{PoolFault}
 use Rattle.pool.specs.Entries.{Entry}
-use Rattle.pool.specs.Lookups.{class_name_at}
 use Rattle.classfile.specs.declared.form_fault.FormRule.TheVariants.{BadFlags, Twice, AttributeTwice, BadBootstrap}
 use Rattle.classfile.specs.declared.location.Location.TheVariants as location
 use Rattle.classfile.specs.Bootstraps.{has_bad_bootstraps}
 use Rattle.classfile.specs.Conditions.{Condition}
 use Rattle.classfile.specs.Flags.{has, FINAL}
 use Rattle.classfile.specs.ClassAttributes.{permitted_in}
+use Rattle.classfile.specs.Methods.{names_at}
 use Rattle.classfile.specs.Values.{Class, ClassAttribute}
 use Rattle.classfile.specs.release.Twice.{has_twice}
 use Rattle.classfile.specs.release.Attributes.{singles_stand_twice, records_have_twice, are_of_two_nests}
 
 -- ---- interfaces
-
--- a name, where one was found, in front of others
-abbrev pub with_name : Result (List ℕ) PoolFault → List (List ℕ) → List (List ℕ)
-with_name (Ok name) names = name ∷ names
-with_name (Err e) names = names
-
--- the names of the classes at these indices
-abbrev pub names_at : List Entry → List ℕ → List (List ℕ)
-names_at pool [] = []
-names_at pool (index ∷ others) = with_name (class_name_at pool index) (names_at pool others)
 
 unfoldable pub interfaces_stand_twice : List Entry → List ℕ → Bool
 interfaces_stand_twice pool interfaces = has_twice bytes_eq (names_at pool interfaces)

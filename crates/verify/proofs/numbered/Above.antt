@@ -82,7 +82,7 @@ below_unguarded s r name n m a b e f answer = apart_unguarded s.classes name r (
 -- ---- the member that an instruction uses
 
 -- the constant that it names has the number of the class that is asked for it
-pub asked_numbered : (s : Numbering) (m : methods.Method Act) (x : RuleNumbers) → AreRuleNumbers s m x → (a : Act) (i : ℕ) → used_index a ≡ Some i → (u : Use) → used_by m a ≡ Some u
+pub asked_numbered : (s : Numbering) (m : methods.Method Act) (x : RuleNumbers) → AreRuleNumbers s m x → (a : Act) (i : ℕ) → used_index m.release a ≡ Some i → (u : Use) → used_by m a ≡ Some u
     → HasClass s (constant_in (constants_of x.table.now) i) (class u.reference.class)
 asked_numbered s m x numbers a i at u e =
     member_numbered s m.constant_pool (arguments_of x.table.now) i (constant_in (constants_of x.table.now) i) u.reference (numbers.table i) (used_at m a i at u e)

@@ -1,5 +1,5 @@
 -- Objects on which members are used, by their numbers.
-use Rattle.std.proofs.Common.{◌≡◌, ◌∙◌, ℕ, Bool, zero, suc, true, false, if◌then◌else◌, List, [], ◌∷◌, Option, Some, None, option_map, drop, slice_get, refl, sym, ap, subst}
+use Rattle.std.proofs.Common.{◌≡◌, ◌∙◌, ℕ, Bool, zero, suc, true, false, ◌&&◌, if◌then◌else◌, List, [], ◌∷◌, ◌++◌, Option, Some, None, option_map, drop, slice_get, refl, sym, ap, subst}
 use Rattle.std.specs.Option.{option_and_then, option_map_or}
 use Rattle.names.specs.Descriptors.{FieldDescriptor}
 use Rattle.names.specs.ReferenceTypes.{ReferenceType, class_type, array_type}
@@ -8,13 +8,14 @@ use Rattle.classfile.specs.Methods.{Method}
 use Rattle.classfile.specs.declared.class_file.ClassFile.{ClassFile}
 use Rattle.classfile.specs.declared.code_method.CodeMethod.{CodeMethod}
 use Rattle.hierarchy.specs.Class.{ClassFact}
-use Rattle.hierarchy.specs.Answer.{no}
+use Rattle.hierarchy.specs.Answer.{yes, no}
 use Rattle.hierarchy.specs.Nearest.{MemberReference, is_guarded}
 use Rattle.insn.specs.Meanings as acts
 use Rattle.insn.specs.Meanings.{Act}
 use Rattle.frames.specs.FrameFact.{FrameFact}
 use Rattle.frames.specs.VerificationType.{VerificationType, top, int, float, long, double, null, class, array, uninit_this, uninit}
 use Rattle.frames.specs.Assignable.{type_answer}
+use Rattle.frames.specs.DeclaredFrames.{is_uninit_this}
 use Rattle.type_numbers.specs.Numbers.{Numbering, IsNumber}
 use Rattle.type_numbers.specs.Decoding.{type_by, types_by}
 use Rattle.type_numbers.proofs.Decoded.{number_read}
@@ -22,7 +23,11 @@ use Rattle.rules.specs.After.{top_of}
 use Rattle.rules.specs.Bodies.{method_view}
 use Rattle.rules.specs.Guards.{IsReference, Surroundings, Uses, field, method, own_name}
 use Rattle.rules.specs.declared.protected_members.Use as uses
-use Rattle.rules.specs.Protected.{Use, field_use, method_reference, method_use, member_conditions, object_answer, object_beneath, object_conditions, use_conditions, used_by}
+use Rattle.rules.specs.Constants.{is_init_name}
+use Rattle.rules.specs.Interfaces.{calls_indirect}
+use Rattle.rules.specs.ReasonNumbers.{not_direct_interface}
+use Rattle.frames.specs.Conditions.{reason}
+use Rattle.rules.specs.Protected.{Use, constructor_use, field_use, method_reference, method_use, member_conditions, object_answer, object_beneath, object_conditions, use_conditions, used_by}
 use Rattle.verify.specs.private.pass.Objects.{is_array_type, used_index, AnswersUse, UsesGuarded}
 
 -- the item that so many stand above
@@ -54,17 +59,29 @@ array_answer classes name (class other) e = absurd (cc)
 array_answer classes name uninit_this e = absurd (cc)
 array_answer classes name (uninit offset) e = absurd (cc)
 
-pub other_answer : (classes : List ClassFact) (name : List ℕ) (t : VerificationType) → is_array_type t ≡ false → object_answer classes name t ≡ type_answer classes t (class name)
-other_answer classes name (array component) e = absurd (cc)
-other_answer classes name top e = refl
-other_answer classes name int e = refl
-other_answer classes name float e = refl
-other_answer classes name long e = refl
-other_answer classes name double e = refl
-other_answer classes name null e = refl
-other_answer classes name (class other) e = refl
-other_answer classes name uninit_this e = refl
-other_answer classes name (uninit offset) e = refl
+pub own_answer : (classes : List ClassFact) (name : List ℕ) (t : VerificationType) → is_uninit_this t ≡ true → yes ≡ object_answer classes name t
+own_answer classes name uninit_this e = refl
+own_answer classes name (array component) e = absurd (cc)
+own_answer classes name top e = absurd (cc)
+own_answer classes name int e = absurd (cc)
+own_answer classes name float e = absurd (cc)
+own_answer classes name long e = absurd (cc)
+own_answer classes name double e = absurd (cc)
+own_answer classes name null e = absurd (cc)
+own_answer classes name (class other) e = absurd (cc)
+own_answer classes name (uninit offset) e = absurd (cc)
+
+pub other_answer : (classes : List ClassFact) (name : List ℕ) (t : VerificationType) → is_array_type t ≡ false → is_uninit_this t ≡ false → object_answer classes name t ≡ type_answer classes t (class name)
+other_answer classes name (array component) e h = absurd (cc)
+other_answer classes name top e h = refl
+other_answer classes name int e h = refl
+other_answer classes name float e h = refl
+other_answer classes name long e h = refl
+other_answer classes name double e h = refl
+other_answer classes name null e h = refl
+other_answer classes name (class other) e h = refl
+other_answer classes name uninit_this e h = absurd (cc)
+other_answer classes name (uninit offset) e h = refl
 
 -- ---- the member that an instruction uses
 
@@ -93,31 +110,59 @@ module _ (m : Method Act) (i : ℕ) (u : Use) where
       by None q h = absurd (cc)
       by (Some c) q h = called_by c q c.interface refl c.class refl h
 
+  -- a constructor is used in a class of a release alone
+  pub constructor_used : (release : Bool) → option_and_then (constructor_use release) (method_at m.constant_pool i) ≡ Some u → IsReference m.constant_pool i u.reference
+  constructor_used release e = by (method_at m.constant_pool i) refl e
+    where
+      by : (o : Option MethodConstant) → method_at m.constant_pool i ≡ o → option_and_then (constructor_use release) o ≡ Some u → IsReference m.constant_pool i u.reference
+      by None q h = absurd (cc)
+      by (Some c) q h = by_use (release && is_init_name c) h
+        where
+          by_use : (b : Bool) → (if b then method_use c c.interface c.class else None) ≡ Some u → IsReference m.constant_pool i u.reference
+          by_use true k = called_by c q c.interface refl c.class refl k
+          by_use false k = absurd (cc)
+
+not_constructed : (release : Bool) (i : ℕ) (u : Use) → (if release then Some i else None) ≡ None → (o : Option MethodConstant) → option_and_then (constructor_use release) o ≡ Some u → ⊥
+not_constructed true i u none o e = cc
+not_constructed false i u none None e = cc
+not_constructed false i u none (Some c) e = cc
+
+the_index : (release : Bool) (i j : ℕ) → (if release then Some i else None) ≡ Some j → i ≡ j
+the_index true i j e = cc
+the_index false i j e = absurd (cc)
+
 -- that of the constant at the index
-pub used_at : (m : Method Act) (a : Act) (i : ℕ) → used_index a ≡ Some i → (u : Use) → used_by m a ≡ Some u → IsReference m.constant_pool i u.reference
+pub used_at : (m : Method Act) (a : Act) (i : ℕ) → used_index m.release a ≡ Some i → (u : Use) → used_by m a ≡ Some u → IsReference m.constant_pool i u.reference
 used_at m (acts.GetField j) i at u e = let same : j ≡ i = cc in subst (λ k. IsReference m.constant_pool k u.reference) same (field_used m j u (λ f. []) e)
 used_at m (acts.PutField j) i at u e =
     let same : j ≡ i = cc in subst (λ k. IsReference m.constant_pool k u.reference) same (field_used m j u (λ (f : FieldConstant). f.type ∷ []) e)
 used_at m (acts.InvokeVirtual j) i at u e = let same : j ≡ i = cc in subst (λ k. IsReference m.constant_pool k u.reference) same (method_used m j u e)
+used_at m (acts.InvokeSpecial j) i at u e = subst (λ k. IsReference m.constant_pool k u.reference) (the_index m.release j i at) (constructor_used m j u m.release e)
 used_at m a i at u e = absurd (cc)
 
 -- none where there is no index
-pub unused : (classes : List ClassFact) (m : Method Act) (a : Act) (b : Bool) → used_index a ≡ None → AnswersUse classes m a b
+pub unused : (classes : List ClassFact) (m : Method Act) (a : Act) (b : Bool) → used_index m.release a ≡ None → AnswersUse classes m a b
 unused classes m (acts.GetField i) b none u e = absurd (cc)
 unused classes m (acts.PutField i) b none u e = absurd (cc)
 unused classes m (acts.InvokeVirtual i) b none u e = absurd (cc)
+unused classes m (acts.InvokeSpecial i) b none u e = absurd (not_constructed m.release i u none (method_at m.constant_pool i) e)
 unused classes m a b none u e = absurd (cc)
 
 -- nothing is asked where no guarded member is used
-pub none_asked : (classes : List ClassFact) (m : Method Act) (a : Act) (f : FrameFact) → AnswersUse classes m a false → member_conditions classes m a f ≡ []
-none_asked classes m a f free = by (used_by m a) refl
+pub none_used : (classes : List ClassFact) (m : Method Act) (a : Act) (f : FrameFact) → AnswersUse classes m a false → option_map_or (use_conditions classes m f) (used_by m a) [] ≡ []
+none_used classes m a f free = by (used_by m a) refl
   where
     by : (o : Option Use) → used_by m a ≡ o → option_map_or (use_conditions classes m f) o [] ≡ []
     by None q = refl
     by (Some u) q = ap (λ b. if b then object_conditions (object_answer classes m.class (object_beneath u f)) else []) (free u q)
 
+pub none_asked : (classes : List ClassFact) (m : Method Act) (a : Act) (f : FrameFact) → calls_indirect m a ≡ false → AnswersUse classes m a false → member_conditions classes m a f ≡ []
+none_asked classes m a f direct free =
+    ap (λ b. (if b then (reason not_direct_interface, true) ∷ [] else []) ++ option_map_or (use_conditions classes m f) (used_by m a) []) direct
+    ∙ none_used classes m a f free
+
 -- the answer about the constant at the index is that about the member that the instruction uses
-pub answers_use : (around : Surroundings) (body : CodeMethod) (a : Act) (i : ℕ) → around.class ≡ body.class.now → used_index a ≡ Some i → (b : Bool)
+pub answers_use : (around : Surroundings) (body : CodeMethod) (a : Act) (i : ℕ) → around.class ≡ body.class.now → used_index (method_view body).release a ≡ Some i → (b : Bool)
     → ((r : MemberReference) → IsReference around.class.constant_pool i r → b ≡ is_guarded around.classes (own_name around.class) r) → AnswersUse around.classes (method_view body) a b
 answers_use around body a i same there b answer u e =
     let asked = subst (λ (class : ClassFile). IsReference class.constant_pool i u.reference) (sym same) (used_at (method_view body) a i there u e) in

@@ -18,12 +18,13 @@ use Rattle.rules.specs.TypingRules.{TypingRule, falls, targets}
 use Rattle.rules.specs.Table.{TypingRules}
 use Rattle.rules.specs.After.{after}
 use Rattle.rules.specs.Rules.{constructs_own, conditions}
+use Rattle.rules.specs.Interfaces.{calls_indirect, interface_conditions}
 use Rattle.rules.specs.Protected.{Use, used_by, object_beneath, object_answer, object_conditions, use_conditions, member_conditions}
 use Rattle.verify.specs.InitialFrames.{initial_frame}
 use Rattle.verify.specs.TypeSafety.{Frames, caught_frame}
 use Rattle.verify.specs.Verdict.{told_of, answer_conditions, is_end, table_conditions, declared_at, one_target, target_conditions, one_handler, handler_conditions, is_covered, at_conditions, entry}
 use Rattle.verify.specs.Refusals.{BreaksRule, BreaksFrame, BreaksFirst, BreaksTable, HasNoRoom, BreaksCode, BreaksWithFrames}
-use Rattle.verify.specs.Breaks.{Holds, HasNoFrame, Meets, Target, Covering, Breaks, rule, no_frame_at_target, not_assignable_at_target, missing_at_target, Guarded, protected_member, missing_object, no_frame_at_handler, not_assignable_at_handler, missing_at_handler, falls_off, constructor_covered, BreaksAt, not_assignable, missing_there, no_frame, BreaksEntry, covers_nothing, no_start, no_end, no_handler, no_handler_frame, no_throwable, missing_class, AreFields, ConditionsAreFields, IsLeast, BreaksDeclared, at_entry, at_beginning, at_frame, at_instruction, BreaksMethod, no_room, with_frames, RefusedBreaks, MapRefusedBreaks}
+use Rattle.verify.specs.Breaks.{Holds, HasNoFrame, Meets, Target, Covering, Breaks, rule, no_frame_at_target, not_assignable_at_target, missing_at_target, Guarded, protected_member, not_direct, missing_object, no_frame_at_handler, not_assignable_at_handler, missing_at_handler, falls_off, constructor_covered, BreaksAt, not_assignable, missing_there, no_frame, BreaksEntry, covers_nothing, no_start, no_end, no_handler, no_handler_frame, no_throwable, missing_class, AreFields, ConditionsAreFields, IsLeast, BreaksDeclared, at_entry, at_beginning, at_frame, at_instruction, BreaksMethod, no_room, with_frames, RefusedBreaks, MapRefusedBreaks}
 use Rattle.verify.proofs.Declared.{none_least}
 use Rattle.verify.proofs.verdicts.MapFaults.{map_refused_where}
 use Rattle.verify.proofs.verdicts.Refusing.{refused_why}
@@ -296,14 +297,26 @@ module _ (classes : List ClassFact) (m : Method Act) (frames : Frames) where
         by (inl x) = protected_member x.0 g (e ∙ x.1)
         by (inr x) = missing_object x.0 x.1 g (e ∙ x.2)
 
-    member_broken : (o : Option Use) → used_by m act ≡ o → Holds (option_map_or (use_conditions classes m f) o []) why → Broken
-    member_broken None d h = elim h [ ]
-    member_broken (Some u) d h = by (is_guarded classes m.class u.reference) refl h
+    use_broken : (o : Option Use) → used_by m act ≡ o → Holds (option_map_or (use_conditions classes m f) o []) why → Broken
+    use_broken None d h = elim h [ ]
+    use_broken (Some u) d h = by (is_guarded classes m.class u.reference) refl h
       where
         by : (b : Bool) → is_guarded classes m.class u.reference ≡ b
             → Holds (if b then object_conditions (object_answer classes m.class (object_beneath u f)) else []) why → Broken
         by true e k = object_broken (record { member = u; used = d; guarded = e }) (object_answer classes m.class (object_beneath u f)) refl k
         by false e k = elim k [ ]
+
+    interface_broken : (b : Bool) → calls_indirect m act ≡ b → Holds (if b then (reason 86, true) ∷ [] else []) why → Broken
+    interface_broken true e (inl h) = not_direct (held why (reason 86) true h).0 e
+    interface_broken true e (inr h) = elim h [ ]
+    interface_broken false e h = elim h [ ]
+
+    abbrev on_use : Conditions
+    on_use = option_map_or (use_conditions classes m f) (used_by m act) []
+
+    member_broken : Holds (interface_conditions m act) why ⊎ Holds on_use why → Broken
+    member_broken (inl h) = interface_broken (calls_indirect m act) refl h
+    member_broken (inr h) = use_broken (used_by m act) refl h
 
     last_broken : Holds last why → Broken
     last_broken (inl e) =
@@ -321,7 +334,7 @@ module _ (classes : List ClassFact) (m : Method Act) (frames : Frames) where
     broken_where h = first (holds_apart (conditions classes m at p f) (at_targets ++ ((on_member ++ at_handlers) ++ last)) why h)
       where
         fourth : Holds on_member why ⊎ Holds at_handlers why → Broken
-        fourth (inl x) = member_broken (used_by m act) refl x
+        fourth (inl x) = member_broken (holds_apart (interface_conditions m act) on_use why x)
         fourth (inr x) = let y = handlers_held at f m.exceptions why x in handler_broken (record { e = y.e; among = y.among; covered = y.covered }) (at_offset frames y.e.handler) refl y.here
 
         third : Holds (on_member ++ at_handlers) why ⊎ Holds last why → Broken
@@ -382,11 +395,19 @@ module _ (classes : List ClassFact) (m : Method Act) (frames : Frames) where
     member_told g h =
         let asked : Conditions = object_conditions (object_answer classes m.class (object_beneath g.member f)) in
         let one : Holds (if is_guarded classes m.class g.member.reference then asked else []) why = subst (λ b. Holds (if b then asked else []) why) (sym g.guarded) h in
-        in_member (subst (λ (o : Option Use). Holds (option_map_or (use_conditions classes m f) o []) why) (sym g.used) one)
+        in_member (holds_behind (interface_conditions m act) on_use why
+        (subst (λ (o : Option Use). Holds (option_map_or (use_conditions classes m f) o []) why) (sym g.used) one))
+
+    interface_told : why ≡ reason 86 → calls_indirect m act ≡ true → Told
+    interface_told w e =
+        let one : Holds ((reason 86, true) ∷ []) why = inl (put why (reason 86) true w refl) in
+        in_member (holds_front (interface_conditions m act) on_use why
+        (subst (λ b. Holds (if b then (reason 86, true) ∷ [] else []) why) (sym e) one))
 
     told_where : Broken → Told
     told_where (rule h) = holds_front (conditions classes m at p f) (at_targets ++ ((on_member ++ at_handlers) ++ last)) why h
     told_where (protected_member w g e) = member_told g (no_held 82 (object_answer classes m.class (object_beneath g.member f)) why w e)
+    told_where (not_direct w e) = interface_told w e
     told_where (missing_object name w g e) = member_told g (missing_held 82 (object_answer classes m.class (object_beneath g.member f)) name why w e)
     told_where (no_frame_at_target w t none) =
         in_targets (held_target behind (targets at p) why t.target t.among

@@ -130,20 +130,21 @@ fn falls_off(act: &Act<'_>, last: bool) -> bool
 
 /// Whether nothing is asked of an instruction but its rule, its targets, the handlers around it, that it goes on to
 /// another one, and that no entry covers it where it calls a constructor: it uses no member on an object, and names no
-/// bootstrap method.
+/// bootstrap method. In a class of a release a constructor is such a member.
 #[inline(always)]
-fn asks_no_more(act: &Act<'_>) -> bool
-    ensures { result ≡ asks_no_more (act_view act.now) }
+fn asks_no_more(release: bool, act: &Act<'_>) -> bool
+    ensures { result ≡ asks_no_more release (act_view act.now) }
 {
-    !matches!(
-        act,
+    match act {
         Act::GetField { .. }
-            | Act::PutField { .. }
-            | Act::InvokeVirtual { .. }
-            | Act::InvokeDynamic { .. }
-            | Act::LoadConstant { .. }
-            | Act::LoadWideConstant { .. }
-    )
+        | Act::PutField { .. }
+        | Act::InvokeVirtual { .. }
+        | Act::InvokeDynamic { .. }
+        | Act::LoadConstant { .. }
+        | Act::LoadWideConstant { .. } => false,
+        Act::InvokeSpecial { .. } => !release,
+        _ => true,
+    }
 }
 
 /// How much of an instruction is judged at the offset to which the handlers come: its rule alone, or the rule and the
@@ -180,7 +181,7 @@ pub fn scope_of<'a, C: Classes>(
     if is_covered_call(at, act, handlers) {
         return Scope::Wholly;
     }
-    if asks_no_more(act) {
+    if asks_no_more(body.method.class.release, act) {
         return Scope::Named(NO_FACTS);
     }
     match look_up(body, act, constants) {

@@ -1,5 +1,6 @@
 //! The protected member that an instruction uses (JVMS 4.10.1.8), and whether it calls a constructor on the own object.
 ghost use Rattle.std.specs.Prelude.{◌≡◌, ◌&&◌, true, false, ℕ, List, [], drop, is_some, option_map, IfOk, IfSome};
+ghost use Rattle.std.specs.Option.{option_map_or};
 ghost use Rattle.classfile.specs.Methods.{ExceptionEntry};
 ghost use Rattle.hierarchy.specs.Answer.{outcome_of};
 ghost use Rattle.hierarchy.specs.Nearest.{MemberReference, is_guarded};
@@ -18,7 +19,8 @@ ghost use Rattle.rules.specs.Bodies.{method_view};
 ghost use Rattle.rules.specs.Constants.{invoke_special};
 ghost use Rattle.rules.specs.Naming.{names_bootstrapped, sets_own};
 ghost use Rattle.rules.specs.Outcomes.{Judges};
-ghost use Rattle.rules.specs.Protected.{member_conditions, object_answer};
+ghost use Rattle.rules.specs.Interfaces.{calls_indirect, interface_conditions};
+ghost use Rattle.rules.specs.Protected.{member_conditions, object_answer, use_conditions, used_by};
 ghost use Rattle.rules.specs.Rules.{constructs_own};
 ghost use Rattle.rules.specs.Table.{typing_rule};
 ghost use Rattle.rules.specs.Ways.{special_index};
@@ -26,7 +28,7 @@ ghost use Rattle.numbered_rules.specs.RunningFrame.{held};
 ghost use Rattle.numbered_rules.specs.RuleNumbers.{AreRuleNumbers};
 ghost use Rattle.verify.specs.Verdict.{is_covered};
 ghost use Rattle.verify.specs.private.pass.Following.{Follows, AreAhead};
-ghost use Rattle.verify.specs.private.pass.Objects.{is_array_type, member_class_of, used_index, AnswersUse, UsesGuarded};
+ghost use Rattle.verify.specs.private.pass.Objects.{is_array_type, member_class_of, names_interface, used_index, AnswersUse, UsesGuarded};
 
 use crate::pass::handlers::Handlers;
 use classfile::CodeMethod;
@@ -36,7 +38,9 @@ use insn::Act;
 use method_frames::MethodFrames;
 use numbered_rules::{Body, NamedFacts, TOP};
 use pool::MethodConstant;
-use rules::{ClassConstants, Reason, Use, check_object, is_constructor, special_index, used_by};
+use rules::{
+    ClassConstants, Reason, Use, check_object, is_constructor, special_index, together, used_by,
+};
 use std::alloc::AllocError;
 use type_numbers::{ConstantTable, NamedConstant, Parts, TypeNumbers, tags};
 
@@ -58,7 +62,8 @@ fn is_array(t: &VType<'_>) -> bool
     matches!(t, VType::Array { .. })
 }
 
-/// Whether an object may be one of a class, by their numbers. No array is, whatever the class.
+/// Whether an object may be one of a class, by their numbers. No array is, whatever the class. The own object is one,
+/// which its constructor makes ready.
 fn object_answer<'n, C: Classes>(
     object: u32,
     class: u32,
@@ -69,21 +74,27 @@ fn object_answer<'n, C: Classes>(
     ensures { (t : VerificationType) (name : List ℕ) → IsNumber types.now object t
         → IsNumber types.now class (class_of name) → outcome_of result ≡ object_answer types.now.classes name t }
 {
-    if is_array(&types.vtype(object)) {
+    let t = types.vtype(object);
+    if is_array(&t) {
         return Answer::No;
+    }
+    if is_own(&t) {
+        return Answer::Yes;
     }
     types.assignable(object, class)
 }
 
-/// The index of the member that an instruction uses on an object, if it may use one.
+/// The index of the member that an instruction uses on an object, if it may use one. In a class of a release that may
+/// be a constructor (JVMS 4.10.1.9, invokespecial).
 #[inline(always)]
-fn used_index(act: &Act<'_>) -> Option<u16>
-    ensures { result ≡ used_index (act_view act.now) }
+fn used_index(release: bool, act: &Act<'_>) -> Option<u16>
+    ensures { result ≡ used_index release (act_view act.now) }
 {
     match *act {
         Act::GetField { index } => Some(index),
         Act::PutField { index } => Some(index),
         Act::InvokeVirtual { index } => Some(index),
+        Act::InvokeSpecial { index } if release => Some(index),
         _ => None,
     }
 }
@@ -100,7 +111,7 @@ fn uses_guarded<'a, C: Classes>(
     ensures guarded { IfOk result (AnswersUse constants.old.members.classes (method_view method.now)
         (act_view act.now)) }
 {
-    match used_index(act) {
+    match used_index(method.class.release, act) {
         None => Ok(false),
         Some(index) => constants.members.is_guarded(index),
     }
@@ -155,7 +166,7 @@ fn may_use_guarded<'a, C: Classes>(
         → s.classes ≡ constants.now.members.classes → AreRuleNumbers s m body.now.numbers
         → result ≡ false → AnswersUse s.classes m (act_view act.now) false }
 {
-    let Some(index) = used_index(act) else {
+    let Some(index) = used_index(body.method.class.release, act) else {
         return false;
     };
     match member_class(body.numbers.table, index) {
@@ -181,9 +192,50 @@ fn guarded_use<'a, C: Classes>(
     Ok(used_by(method, act, &named))
 }
 
-/// Judges an instruction, in the frame before it, by the member that it uses: where that is guarded, 82 unless the
-/// object is one of the current class, of which this is the number, and 77 where a class is missing; or 1 where memory
-/// runs out.
+/// 86 where an instruction calls a method of an interface that is no direct one (JVMS 4.9.2, invokespecial), and 1 where
+/// memory runs out.
+fn check_interface<'a, C: Classes>(
+    method: &CodeMethod<'_, 'a>,
+    act: &Act<'a>,
+    constants: &mut ClassConstants<'_, '_, 'a, C>,
+) -> Result<(), Reason<'a>>
+    requires { constants.old.members.class ≡ method.now.class.now }
+    ensures same { constants.new.members ≡ constants.old.members }
+    ensures judged { Judges (interface_conditions (method_view method.now) (act_view act.now)) result }
+{
+    if constants.calls_indirect(method, act)? {
+        return Err(Reason::NotDirectInterface);
+    }
+    Ok(())
+}
+
+/// 82 where an instruction uses a guarded member, unless the object is one of the class of this number, and 77 where a
+/// class is missing; or 1 where memory runs out.
+fn check_use<'a, C: Classes>(
+    method: &CodeMethod<'_, 'a>,
+    act: &Act<'a>,
+    class: u32,
+    constants: &mut ClassConstants<'_, '_, 'a, C>,
+    frames: &MethodFrames<'_, '_, 'a, C>,
+) -> Result<(), Reason<'a>>
+    requires class { IsNumber frames.now.types class (class_of (method_view method.now).class) }
+    requires constants { constants.old.members
+        ≡ record { class = method.now.class.now; classes = frames.now.types.classes } }
+    ensures same { constants.new.members ≡ constants.old.members }
+    ensures judged { let m = method_view method.now in Judges (option_map_or
+        (use_conditions frames.now.types.classes m (held frames.now)) (used_by m (act_view act.now)) []) result }
+{
+    match guarded_use(method, act, constants)? {
+        None => Ok(()),
+        Some(member) => {
+            let object = item_beneath(member.above, frames);
+            check_object(object_answer(object, class, frames.types()))
+        }
+    }
+}
+
+/// Judges an instruction, in the frame before it, by the member that it uses, and by the interface whose method it
+/// calls. The number is that of the current class.
 pub fn check_member<'a, C: Classes>(
     method: &CodeMethod<'_, 'a>,
     act: &Act<'a>,
@@ -198,13 +250,9 @@ pub fn check_member<'a, C: Classes>(
     ensures judged { Judges (member_conditions frames.now.types.classes (method_view method.now) (act_view act.now)
         (held frames.now)) result }
 {
-    match guarded_use(method, act, constants)? {
-        None => Ok(()),
-        Some(member) => {
-            let object = item_beneath(member.above, frames);
-            check_object(object_answer(object, class, frames.types()))
-        }
-    }
+    let called = check_interface(method, act, constants);
+    let used = check_use(method, act, class, constants, frames);
+    together(called, used)
 }
 
 /// Whether the own object, not initialized, stands beneath the arguments.
@@ -338,8 +386,30 @@ fn uses_no_guarded<'a, C: Classes>(
     }
 }
 
-/// The facts about what an instruction names, where it uses no guarded member on an object. There are none where memory
-/// ran out.
+/// Whether the constant at an index is a method of an interface.
+fn names_interface(table: &ConstantTable, index: u16) -> bool
+    ensures { result ≡ names_interface (constant_in (constants_of table.now) index) }
+{
+    match table.get(index) {
+        NamedConstant::Method { interface, .. } => interface,
+        _ => false,
+    }
+}
+
+/// Whether an instruction may call a method of an interface that is no direct one, by the constant that it names.
+#[inline(always)]
+fn may_call_indirect(body: &Body<'_, '_>, act: &Act<'_>) -> bool
+    ensures { let m = method_view body.now.method.now in (s : Numbering) → AreRuleNumbers s m body.now.numbers
+        → result ≡ false → calls_indirect m (act_view act.now) ≡ false }
+{
+    match special_index(act) {
+        Some(index) => body.method.class.release && names_interface(body.numbers.table, index),
+        None => false,
+    }
+}
+
+/// The facts about what an instruction names, where it uses no guarded member on an object, and calls no method of an
+/// interface that is no direct one. There are none where memory ran out.
 #[inline(never)]
 pub fn look_up<'a, C: Classes>(
     body: &Body<'_, 'a>,
@@ -354,8 +424,10 @@ pub fn look_up<'a, C: Classes>(
     ensures unguarded { let m = method_view body.now.method.now in IfSome result (λ _. (s : Numbering)
         → s.classes ≡ constants.old.members.classes → AreRuleNumbers s m body.now.numbers
         → AnswersUse s.classes m (act_view act.now) false) }
+    ensures direct { let m = method_view body.now.method.now in IfSome result (λ _. (s : Numbering)
+        → AreRuleNumbers s m body.now.numbers → calls_indirect m (act_view act.now) ≡ false) }
 {
-    if !uses_no_guarded(body, act, constants) {
+    if may_call_indirect(body, act) || !uses_no_guarded(body, act, constants) {
         return None;
     }
     match facts_of(body.method, act, constants) {

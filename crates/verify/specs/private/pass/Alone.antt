@@ -14,8 +14,8 @@ use Rattle.verify.specs.private.JudgingSteps.{aside_conditions}
 use Rattle.verify.specs.private.pass.Objects.{used_index}
 
 -- the instruction uses no member on an object, and names no bootstrap method
-abbrev pub asks_no_more : Act → Bool
-asks_no_more a = is_none (used_index a) && is_none (loaded_index a) && is_none (site_index a)
+abbrev pub asks_no_more : (release : Bool) → Act → Bool
+asks_no_more release a = is_none (used_index release a) && is_none (loaded_index a) && is_none (site_index a)
 
 -- nothing is against it but what its rule and its targets are
 abbrev pub IsAlone : NumberedFrames → Method Act → ℕ → Act → Bool → Type 0

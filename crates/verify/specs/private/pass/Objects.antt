@@ -1,5 +1,5 @@
 -- Objects on which members are used.
-use Rattle.std.specs.Prelude.{◌≡◌, ℕ, Bool, true, false, List, Option, Some, None, MatchOption}
+use Rattle.std.specs.Prelude.{◌≡◌, ℕ, Bool, true, false, if◌then◌else◌, List, Option, Some, None, MatchOption}
 use Rattle.classfile.specs.Methods.{Method}
 use Rattle.hierarchy.specs.Class.{ClassFact}
 use Rattle.hierarchy.specs.Nearest.{is_guarded}
@@ -16,18 +16,24 @@ abbrev pub is_array_type : VerificationType → Bool
 is_array_type (array component) = true
 is_array_type _ = false
 
--- the member that an instruction may use on an object, by its index
-abbrev pub used_index : Act → Option ℕ
-used_index (acts.GetField i) = Some i
-used_index (acts.PutField i) = Some i
-used_index (acts.InvokeVirtual i) = Some i
-used_index _ = None
+-- the member that an instruction may use on an object, by its index, in a class of a release or without one
+abbrev pub used_index : (release : Bool) → Act → Option ℕ
+used_index release (acts.GetField i) = Some i
+used_index release (acts.PutField i) = Some i
+used_index release (acts.InvokeVirtual i) = Some i
+used_index release (acts.InvokeSpecial i) = if release then Some i else None
+used_index release _ = None
 
 -- the number of the class of a field or a method
 abbrev pub member_class_of : NamedConstant → Option ℕ
 member_class_of (Field n held) = Some n
 member_class_of (CalledMethod interface init n types) = Some n
 member_class_of _ = None
+
+-- it is a method of an interface
+abbrev pub names_interface : NamedConstant → Bool
+names_interface (CalledMethod interface init n types) = interface
+names_interface _ = false
 
 -- the answer to whether the member that is used is guarded
 abbrev pub AnswersUse : List ClassFact → Method Act → Act → Bool → Type 0

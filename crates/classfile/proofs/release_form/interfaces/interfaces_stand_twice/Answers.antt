@@ -5,7 +5,8 @@ use Rattle.names.specs.declared.met_names.MetNames.{MetNames}
 use Rattle.names.specs.MetNames.{is_met, Meets}
 use Rattle.pool.specs.declared.fault.PoolFault.{PoolFault}
 use Rattle.pool.specs.Lookups.{class_name_at}
-use Rattle.classfile.specs.release.ClassRules.{with_name, names_at, interfaces_stand_twice}
+use Rattle.classfile.specs.Methods.{with_name, names_at}
+use Rattle.classfile.specs.release.ClassRules.{interfaces_stand_twice}
 use Rattle.classfile.specs.release.Twice.{has_twice}
 use Rattle.classfile.proofs.MetLaws.{none_met, come_again, comes_once, stands_once}
 use Rattle.classfile.proofs.release_form.interfaces.interfaces_stand_twice.Goals as goal

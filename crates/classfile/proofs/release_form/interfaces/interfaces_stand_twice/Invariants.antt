@@ -2,7 +2,7 @@
 use Rattle.std.proofs.Common.{◌≡◌, ◌||◌, drop, map}
 use Rattle.std.specs.List.{list_any}
 use Rattle.names.specs.MetNames.{is_met}
-use Rattle.classfile.specs.release.ClassRules.{names_at}
+use Rattle.classfile.specs.Methods.{names_at}
 use Rattle.classfile.specs.release.Twice.{has_twice}
 use Rattle.std.specs.Str.{bytes_eq}
 use Rattle.classfile.proofs.release_form.interfaces.interfaces_stand_twice.Given as goal
