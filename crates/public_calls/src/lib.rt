@@ -5,6 +5,7 @@
 //! | File | What it tests |
 //! |---|---|
 //! | `releases` | `classfile`, `verify`, `answers`: versions of class files, and classes as a release judges them |
+//! | `release_calls` | `verify`, `rules`: interfaces whose methods are called, as a release judges it |
 //! | `file_answers` | `answers`: what each command answers of files, read or not |
 //! | `command_lines` | `command_line`: what a line asks for, and what the program complains of |
 //! | `fault_texts` | how each fault is displayed |
@@ -18,5 +19,7 @@ mod command_lines;
 mod fault_texts;
 #[cfg(test)]
 mod file_answers;
+#[cfg(test)]
+mod release_calls;
 #[cfg(test)]
 mod releases;

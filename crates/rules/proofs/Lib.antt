@@ -13,6 +13,7 @@ pub mod SpecialCalls
 pub mod Made
 pub mod Lesser
 pub mod Guarding
+pub mod Direct
 pub mod Using
 pub mod TopDown
 pub mod NamedParts

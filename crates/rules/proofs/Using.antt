@@ -80,7 +80,7 @@ module _ (c : MethodConstant) where
   no_call is = ap (λ b. method_use c b c.class) is
 
   pub no_class_call : is_class_type c.class ≡ false → method_use c c.interface c.class ≡ None
-  no_class_call no = by c.interface c.class no
+  no_class_call other = by c.interface c.class other
     where
       by : (b : Bool) (t : ReferenceType) → is_class_type t ≡ false → method_use c b t ≡ None
       by true t h = refl
@@ -96,8 +96,8 @@ constructs m i c there release named =
 -- no other method, and none of a class without a release
 pub constructs_none : (m : Method Act) (i : ℕ) (c : MethodConstant) → method_at m.constant_pool i ≡ Some c → (m.release && is_init_name c) ≡ false
     → used_by m (acts.InvokeSpecial i) ≡ None
-constructs_none m i c there no =
-    ap (option_and_then (constructor_use m.release)) there ∙ ap (λ b. if b then method_use c c.interface c.class else None) no
+constructs_none m i c there other =
+    ap (option_and_then (constructor_use m.release)) there ∙ ap (λ b. if b then method_use c c.interface c.class else None) other
 
 pub judged : (classes : List ClassFact) (m : Method Act) (act : Act) (f : FrameFact) (u : Use) (r : Result Unit Reason) → used_by m act ≡ Some u
     → is_guarded classes m.class u.reference ≡ true → (a : Outcome) → a ≡ object_answer classes m.class (object_beneath u f) → Judges (object_conditions a) r

@@ -5,7 +5,7 @@ ghost use Rattle.std.specs.Str.{bytes_eq};
 ghost use Rattle.names.specs.MetNames.{is_met};
 ghost use Rattle.pool.specs.Lookups.{text_at};
 ghost use Rattle.classfile.specs.declared.class_file.ClassFile.{ClassFile};
-ghost use Rattle.classfile.specs.Methods.{names_at};
+ghost use Rattle.classfile.specs.Methods.{is_name, names_at, superclass_of};
 ghost use Rattle.rules.specs.Guards.{is_direct_of, interface_name, AreDirect};
 
 use crate::declaring_class::{class_name, superclass_name};
@@ -54,6 +54,17 @@ fn meet_all<'a>(
     Ok(())
 }
 
+/// Meets the name of the direct superclass of a class, if it has one.
+fn meet_superclass<'a>(class: &ClassFile<'a>, names: &mut MetNames<'a>) -> Result<(), AllocError>
+    ensures { IfOk result (λ _. (name : List ℕ) → is_met names.new name
+        ≡ (is_name (superclass_of class.now.constant_pool class.now.super_class) name || is_met names.old name)) }
+{
+    if let Some(name) = superclass_name(class) {
+        names.meet(name, 0)?;
+    }
+    Ok(())
+}
+
 impl<'a> DirectClasses<'a> {
     /// Those of a class. It fails only if memory runs out.
     pub fn new(alloc: Global, class: &ClassFile<'a>) -> Result<DirectClasses<'a>, AllocError>
@@ -62,9 +73,7 @@ impl<'a> DirectClasses<'a> {
         let pool = &class.constant_pool;
         let mut names = MetNames::new(alloc);
         meet_all(pool, &class.interfaces, &mut names)?;
-        if let Some(name) = superclass_name(class) {
-            names.meet(name, 0)?;
-        }
+        meet_superclass(class, &mut names)?;
         names.meet(class_name(class), 0)?;
         let answers = vec![in alloc; None; pool.constants().len() + 1]?;
         Ok(DirectClasses { names, answers })

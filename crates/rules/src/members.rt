@@ -39,7 +39,7 @@ impl<'k, 'c, 'a, C: Classes> Model for Members<'k, 'c, 'a, C> {
 }
 
 impl<'k, 'c, 'a, C: Classes> Members<'k, 'c, 'a, C> {
-    ghost use Rattle.std.specs.Prelude.{◌≡◌, ℕ, List, Some, IfOk};
+    ghost use Rattle.std.specs.Prelude.{◌≡◌, ℕ, List, Some, true, IfOk};
     ghost use Rattle.names.specs.ReferenceTypes.{is_class_type};
     ghost use Rattle.hierarchy.specs.Answer.{SubclassAnswer, yes_if};
     ghost use Rattle.hierarchy.specs.Nearest.{MemberReference, is_guarded};
