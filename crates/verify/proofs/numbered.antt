@@ -9,6 +9,7 @@ pub mod Running
 pub mod Listed
 pub mod Watched
 pub mod Representing
+pub mod Direct
 pub mod Dropping
 pub mod Starting
 pub mod Refusing

@@ -427,7 +427,10 @@ pub fn look_up<'a, C: Classes>(
     ensures direct { let m = method_view body.now.method.now in IfSome result (λ _. (s : Numbering)
         → AreRuleNumbers s m body.now.numbers → calls_indirect m (act_view act.now) ≡ false) }
 {
-    if may_call_indirect(body, act) || !uses_no_guarded(body, act, constants) {
+    if may_call_indirect(body, act) {
+        return None;
+    }
+    if !uses_no_guarded(body, act, constants) {
         return None;
     }
     match facts_of(body.method, act, constants) {

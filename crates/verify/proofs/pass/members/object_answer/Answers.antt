@@ -15,12 +15,12 @@ returns-then-is_array g c = λ t name is of.
 pub returns-then-is_own : goal.returns-then-is_own
 returns-then-is_own g c = λ t name is of.
     let same = one_type c.args.types.now c.args.object t (type_of c.vtype-t.result) is c.vtype-t.ensures in
-    let answer = own_answer c.args.types.now.classes name t (ap is_uninit_this same ∙ (sym c.is_own.ensures ∙ c.if-is_own.true)) in
+    let answer = own_answer c.args.types.now.classes name t (ap is_uninit_this same ∙ (sym c.is_own.ensures.own ∙ c.if-is_own.true)) in
     search (rules, answer)
 
 pub returns : goal.returns
 returns g c = λ t name is of.
     let same = one_type c.args.types.now c.args.object t (type_of c.vtype-t.result) is c.vtype-t.ensures in
     let no_array = ap is_array_type same ∙ (sym c.is_array.ensures ∙ c.if-is_array.false) in
-    let not_own = ap is_uninit_this same ∙ (sym c.is_own.ensures ∙ c.if-is_own.false) in
+    let not_own = ap is_uninit_this same ∙ (sym c.is_own.ensures.own ∙ c.if-is_own.false) in
     c.assignable.ensures t (class name) is of ∙ sym (other_answer c.args.types.now.classes name t no_array not_own)
