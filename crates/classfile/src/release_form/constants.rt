@@ -31,7 +31,7 @@ fn is_misnamed(pool: &Pool<'_>, forms: &mut TextForms, name: u16, descriptor: u1
     if !begins_with(text, b'(') || is_init(name_text) {
         return false;
     }
-    !forms.name(pool, name, name_text).method_name
+    !forms.is_method_name(pool, name, name_text)
 }
 
 fn is_field_kind(kind: ReferenceKind) -> bool
