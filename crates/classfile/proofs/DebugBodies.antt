@@ -1,5 +1,5 @@
 -- Bodies of debug tables, one attribute after the other.
-use Rattle.std.proofs.Common.{◌≡◌, ◌+◌, ◌<◌, ◌∙◌, ◌&&◌, ◌||◌, ◌++◌, ℕ, suc, Bool, true, false, List, [], ◌∷◌, length, drop, drop-cons, add-one, cond, Option, Some, None, refl, sym, ap, ap₂}
+use Rattle.std.proofs.Common.{◌≡◌, ◌+◌, ◌<◌, ◌∙◌, ◌&&◌, ◌||◌, ◌++◌, ℕ, suc, Bool, true, false, List, [], ◌∷◌, length, drop, drop-cons, add-one, cond, Some, refl, sym, ap, ap₂}
 use Rattle.std.specs.Prelude.{slice_get, nat_le, option_to_list}
 use Rattle.std.specs.List.{list_any, flat_map}
 use Rattle.std.proofs.lemmas.List.{append_assoc}
@@ -9,7 +9,7 @@ use Rattle.classfile.specs.declared.release_form.debug_tables.Variable.{Variable
 use Rattle.classfile.specs.declared.release_form.table_bodies.TableBodies.{TableBodies}
 use Rattle.classfile.specs.private.TableBodies.{bodies, rows_of, are_bad_bodies, AreJudged}
 use Rattle.classfile.specs.Values.{Nested, CodeBody}
-use Rattle.classfile.specs.release.DebugTables.{starts_of, variables_of, body_named, bodies_named, line_number_table, local_variable_table, local_variable_type_table, is_misshaped, has_types, are_bad, has_bad_table, has_bad_line, has_misshaped, has_bad_variables, types_named, variables_named}
+use Rattle.classfile.specs.release.DebugTables.{starts_of, variables_of, body_named, bodies_named, line_number_table, local_variable_type_table, is_misshaped, has_types, are_bad, has_bad_table, has_bad_line, has_misshaped, has_bad_variables, types_named, variables_named}
 
 bodies_from : (pool : List Entry) (name : List ℕ) (attributes : List Nested) (i : ℕ) (a : Nested) → slice_get attributes i ≡ Some a
     → bodies_named pool name (drop i attributes) ≡ option_to_list (body_named pool name a) ++ bodies_named pool name (drop (i + 1) attributes)
