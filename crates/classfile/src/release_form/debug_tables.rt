@@ -15,7 +15,7 @@ use crate::layouts::has_count;
 use crate::location::{is_named, is_text};
 use crate::nested::NestedAttribute;
 use crate::numbers::number;
-use crate::release_form::few_rows::{self, Rows};
+use crate::release_form::few_rows::{self, FEW, Rows};
 use crate::release_form::repeated_rows::are_repeated;
 use crate::release_form::table_bodies::{TableBodies, only_bodies};
 use crate::text_forms::TextForms;
@@ -414,7 +414,8 @@ fn few_bodies<'a>(major: u16, pool: &Pool<'_>, code: &CodeAttr<'a>) -> Option<Ta
     if major < 49 {
         bodies.types = None;
     }
-    if Rows::of(bodies.variables).are_few() && Rows::of(bodies.types).are_few() {
+    let (variables, types) = (Rows::of(bodies.variables), Rows::of(bodies.types));
+    if variables.count <= FEW && types.count <= FEW {
         Some(bodies)
     } else {
         None

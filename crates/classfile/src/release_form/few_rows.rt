@@ -14,12 +14,14 @@ use crate::text_forms::TextForms;
 use pool::Pool;
 
 /// So many rows are compared one with the other, which takes less time than a set of them.
-const FEW: u16 = 32;
+pub const FEW: u16 = 32;
 
 /// Rows of a table: so many stand in front of the bytes.
 #[derive(Clone, Copy)]
 pub struct Rows<'a> {
+    /// How many rows there are, unless the bytes end before.
     pub count: u16,
+    /// The bytes of the rows, and those behind them.
     pub bytes: &'a [u8],
 }
 
@@ -38,11 +40,6 @@ impl<'a> Rows<'a> {
                 bytes: &[],
             },
         }
-    }
-
-    /// Whether there are few.
-    pub fn are_few(self) -> bool {
-        self.count <= FEW
     }
 
     /// The first of them.
