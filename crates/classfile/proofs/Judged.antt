@@ -1,5 +1,5 @@
 -- Texts of a pool whose forms are kept for their entries.
-use Rattle.std.proofs.Common.{◌≡◌, ℕ, ◌+◌, ◌-◌, ◌<◌, ◌≤◌, Bool, true, false, List, Some, Ok, Option, Result, length, refl, sym, ap, ◌∙◌, arith}
+use Rattle.std.proofs.Common.{◌≡◌, ℕ, ◌+◌, ◌-◌, ◌<◌, ◌≤◌, Bool, true, false, List, Some, Ok, Option, None, IfSome, Result, length, refl, sym, ap, ◌∙◌, arith}
 use Rattle.std.specs.Prelude.{◌≢◌, nat_eq, slice_index_or, slice_set}
 use Rattle.std.proofs.lemmas.Bool.{eqb-true, eqb-false}
 use Rattle.std.proofs.lemmas.List.{get_or-set_same, get_or-set_other, length-set}
@@ -35,6 +35,11 @@ pub kept_form : {F : Type 0} (of : List ℕ → F) (pool : List Entry) (kept : L
 kept_form of pool kept index text found form are here read is =
     let place = place_of of pool kept index text are here in
     are.right (index - 1) found form text (sym read ∙ is) place.within place.here
+
+pub kept_forms : {F : Type 0} (of : List ℕ → F) (pool : List Entry) (kept : List (Option F)) (index : ℕ) (text : List ℕ) (found : Option F) → AreKept of pool kept → text_at pool index ≡ Ok text
+    → found ≡ slice_index_or kept (index - 1) found → IfSome found (λ f. f ≡ of text)
+kept_forms of pool kept index text None are here read = tt
+kept_forms of pool kept index text (Some form) are here read = kept_form of pool kept index text (Some form) form are here read refl
 
 same_text : (t u : List ℕ) → (let r : Result (List ℕ) PoolFault = Ok t in r) ≡ Ok u → t ≡ u
 same_text t u e = cc

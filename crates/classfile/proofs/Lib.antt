@@ -4,6 +4,7 @@ pub mod ClassMeasure
 pub mod ClassOutlines
 pub mod Classes
 pub mod Columns
+pub mod DebugBodies
 pub mod DebugRows
 pub mod DeclaredFieldLaws
 pub mod Encodings

@@ -9,5 +9,6 @@ pub mod NamedAt
 pub mod NumbersLaws
 pub mod Pieces
 pub mod Searching
+pub mod TableBodies
 pub mod TextForms
 pub mod Told

@@ -1,5 +1,6 @@
 //! Where an attribute stands, and whether its body is read by its parts there (JVMS 4.7, table 4.7-C).
 ghost use Rattle.std.specs.Prelude.{◌≡◌};
+ghost use Rattle.std.specs.Str.{bytes_eq};
 ghost use Rattle.classfile.specs.Locations.{is_named, is_code, is_stack_map, is_record};
 
 use pool::Pool;
@@ -19,12 +20,33 @@ pub enum Location {
     RecordComponent,
 }
 
+/// Whether the bytes are these. Texts are short: they are compared one byte after the other.
+fn are_bytes(bytes: &[u8], text: &[u8]) -> bool
+    ensures { result ≡ bytes_eq bytes.now text.now }
+{
+    let (mut rest, mut others) = (bytes, text);
+    while let ([byte, behind @ ..], [other, others_behind @ ..]) = (rest, others) {
+        if byte != other {
+            return false;
+        }
+        (rest, others) = (behind, others_behind);
+    }
+    rest.is_empty() && others.is_empty()
+}
+
+/// Whether a text is this one. Most texts that are compared differ in their lengths.
+pub fn is_text(bytes: &[u8], text: &[u8]) -> bool
+    ensures { result ≡ bytes_eq bytes.now text.now }
+{
+    bytes.len() == text.len() && are_bytes(bytes, text)
+}
+
 /// Whether the index names this text.
 pub fn is_named(pool: &Pool<'_>, index: u16, text: &[u8]) -> bool
     ensures { result ≡ is_named pool.now index text.now }
 {
     match pool.text(index) {
-        Ok(name) => name.bytes() == text,
+        Ok(name) => is_text(name.bytes(), text),
         Err(_) => false,
     }
 }

@@ -7,7 +7,6 @@ ghost use Rattle.classfile.specs.Numbers.{rows_of, number_at, is_laid_out};
 
 use crate::layouts::{AttributeLayout, has_layout, layout_at};
 use crate::location::Location;
-use byteorder::{BigEndian, ByteOrder};
 use pool::Pool;
 
 /// The numbers of an attribute: rows of them, each with one number in every column of the layout. A count of rows that
@@ -24,7 +23,7 @@ pub struct Numbers<'a> {
 pub fn number(high: u8, low: u8) -> u16
     ensures { result ≡ high * 256 + low }
 {
-    BigEndian::read_u16(&[high, low])
+    u16::from_be_bytes([high, low])
 }
 
 /// The number in front of bytes, if there are two.

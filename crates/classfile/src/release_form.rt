@@ -2,7 +2,8 @@
 //! 4.7).
 //!
 //! - `constants`: method handles, and names of methods.
-//! - `debug_tables`: line numbers and local variables; `repeated_rows`: rows of local variables that stand twice.
+//! - `debug_tables`: line numbers and local variables; `table_bodies`: their bodies; `few_rows`: rows of local variables,
+//!   where there are few; `repeated_rows`: rows that stand twice, where there are many.
 //! - `interfaces`: interfaces that are listed twice.
 //! - `repeated`: attributes that may stand once.
 //! - `values`: constant values of fields.
@@ -15,9 +16,11 @@ ghost use Rattle.classfile.specs.Views.{class_attribute_view, class_view, member
 
 mod constants;
 mod debug_tables;
+mod few_rows;
 mod interfaces;
 mod repeated;
 mod repeated_rows;
+mod table_bodies;
 mod values;
 
 use crate::bootstraps::has_bad_bootstraps;

@@ -1,8 +1,8 @@
 //! The forms of the texts of a constant pool (JVMS 4.2, 4.3). Each text is judged once, however many constants and
 //! members ask for its form.
-ghost use Rattle.std.specs.Prelude.{◌≡◌, Ok, IfOk};
+ghost use Rattle.std.specs.Prelude.{◌≡◌, Ok, IfOk, IfSome};
 ghost use Rattle.pool.specs.Lookups.{text_at};
-ghost use Rattle.classfile.specs.Naming.{is_class_name, fits_method};
+ghost use Rattle.classfile.specs.Naming.{is_class_name, is_unqualified_name, is_method_name, is_field_descriptor, fits_method};
 ghost use Rattle.classfile.specs.ConstantForm.{names_class};
 ghost use Rattle.classfile.specs.private.TextForms.{name_form_of, descriptor_form_of, AreForms, AreKept, AreMethodForms};
 
@@ -165,6 +165,15 @@ impl<F: TextForm> JudgedTexts<F> {
         })
     }
 
+    /// The form of the text at this index, if it was judged.
+    fn judged(&self, _pool: &Pool<'_>, index: u16, _text: Text<'_>) -> Option<F>
+        requires kept { AreKept F.form_of _pool.now self.now.forms.items }
+        requires text { text_at _pool.now index ≡ Ok _text.bytes.now }
+        ensures { IfSome result (λ f. f ≡ F.form_of _text.entry.bytes.now) }
+    {
+        self.forms[usize::from(index) - 1]
+    }
+
     /// The form of the text at this index.
     fn form(&mut self, pool: &Pool<'_>, index: u16, text: Text<'_>) -> F
         requires kept { AreKept F.form_of pool.now self.now.forms.items }
@@ -222,6 +231,32 @@ impl TextForms {
         self.names.form(pool, index, text)
     }
 
+    /// Whether the text at this index is an unqualified name. Most were judged before.
+    pub fn is_unqualified_name(&mut self, pool: &Pool<'_>, index: u16, text: Text<'_>) -> bool
+        requires kept { AreForms pool.now self.now }
+        requires text { text_at pool.now index ≡ Ok text.bytes.now }
+        ensures form { result ≡ is_unqualified_name text.entry.bytes.now }
+        ensures kept { AreForms pool.now self.new }
+    {
+        match self.names.judged(pool, index, text) {
+            Some(form) => form.unqualified_name,
+            None => self.name(pool, index, text).unqualified_name,
+        }
+    }
+
+    /// Whether the text at this index is the name of a method that is not special. Most were judged before.
+    pub fn is_method_name(&mut self, pool: &Pool<'_>, index: u16, text: Text<'_>) -> bool
+        requires kept { AreForms pool.now self.now }
+        requires text { text_at pool.now index ≡ Ok text.bytes.now }
+        ensures form { result ≡ is_method_name text.entry.bytes.now }
+        ensures kept { AreForms pool.now self.new }
+    {
+        match self.names.judged(pool, index, text) {
+            Some(form) => form.method_name,
+            None => self.name(pool, index, text).method_name,
+        }
+    }
+
     /// The forms of descriptors that the text at this index has.
     pub fn descriptor(&mut self, pool: &Pool<'_>, index: u16, text: Text<'_>) -> DescriptorForm
         requires kept { AreForms pool.now self.now }
@@ -230,6 +265,19 @@ impl TextForms {
         ensures kept { AreForms pool.now self.new }
     {
         self.descriptors.form(pool, index, text)
+    }
+
+    /// Whether the text at this index is the descriptor of a field. Most were judged before.
+    pub fn is_field_descriptor(&mut self, pool: &Pool<'_>, index: u16, text: Text<'_>) -> bool
+        requires kept { AreForms pool.now self.now }
+        requires text { text_at pool.now index ≡ Ok text.bytes.now }
+        ensures form { result ≡ is_field_descriptor text.entry.bytes.now }
+        ensures kept { AreForms pool.now self.new }
+    {
+        match self.descriptors.judged(pool, index, text) {
+            Some(form) => form.field,
+            None => self.descriptor(pool, index, text).field,
+        }
     }
 }
 

@@ -1,12 +1,14 @@
 -- Words of the code's own steps: the place of a number among bytes, columns of which the indices alone are read, and
 -- two attributes of a kind.
-use Rattle.std.specs.Prelude.{ℕ, ◌+◌, ◌*◌, Bool, true, false, ◌&&◌, if◌then◌else◌, List, [], ◌∷◌, drop, nat_lt, count_by, Option, Some, None}
+use Rattle.std.specs.Prelude.{ℕ, ◌+◌, ◌*◌, Bool, true, false, ◌&&◌, if◌then◌else◌, List, [], ◌∷◌, drop, length, nat_le, nat_lt, count_by, Option, Some, None}
 use Rattle.classfile.specs.declared.layouts.Column.{Column}
 use Rattle.classfile.specs.declared.layouts.Column.TheVariants.{Plain, Text}
+use Rattle.pool.specs.Entries.{Entry}
+use Rattle.classfile.specs.Indices.{on_text}
 use Rattle.classfile.specs.Layouts.{AttributeLayout}
 use Rattle.classfile.specs.Numbers.{Numbers, is_same_column}
 use Rattle.classfile.specs.NumberForm.{on_numbers}
-use Rattle.classfile.specs.Values.{AttributeOf, of_parts, of_numbers, raw}
+use Rattle.classfile.specs.Values.{AttributeOf, name_of, of_parts, of_numbers, raw}
 use lib.Pointwise.{pointwise}
 
 -- the number in front, if there are two bytes
@@ -45,6 +47,10 @@ has_numbers attribute = on_numbers (λ n. true) attribute
 -- those of two are
 abbrev pub two_have_numbers : {A : Type 0} → List (AttributeOf A) → Bool
 two_have_numbers attributes = nat_lt 1 (count_by has_numbers attributes)
+
+-- the name of an attribute is so long
+abbrev pub is_long : {A : Type 0} → List Entry → ℕ → AttributeOf A → Bool
+is_long pool least attribute = on_text pool (name_of attribute) (λ t. nat_le least (length t))
 
 -- the layout of an attribute whose body is numbers
 abbrev pub layout_of : {A : Type 0} → AttributeOf A → Option AttributeLayout

@@ -1,8 +1,9 @@
 //! Method handles that lead to what their kind asks, names of methods, and bootstrap methods (JVMS 4.4.6, 4.4.8,
 //! 4.4.10).
-ghost use Rattle.std.specs.Prelude.{◌≡◌, [], ◌∷◌, IfOk};
+ghost use Rattle.std.specs.Prelude.{◌≡◌, ◌||◌, not, [], ◌∷◌, IfOk};
 ghost use Rattle.classfile.specs.Conditions.{broken_rule};
-ghost use Rattle.classfile.specs.Indices.{on_found};
+ghost use Rattle.classfile.specs.Indices.{on_found, on_text};
+ghost use Rattle.classfile.specs.Naming.{is_init, is_method_name};
 ghost use Rattle.classfile.specs.private.TextForms.{AreForms};
 ghost use Rattle.classfile.specs.release.Constants.{misnames_method, is_misnamed, is_field_kind, is_method_kind, is_interface_kind, leads_as, leads_otherwise, creates, is_other_method, has_other_method, leads_to_other_method, handle_conditions, lacks_bootstrap, constant_conditions};
 ghost use Rattle.pool.specs.Lookups.{named, text_at};
@@ -18,6 +19,18 @@ use crate::text_forms::TextForms;
 use pool::{Constant, NameAndType, Pool, ReferenceKind};
 use std::alloc::AllocError;
 
+/// Whether the text at the index, if there is one, is neither `<init>` nor the name of a method that is not special.
+fn is_misnamed_method(pool: &Pool<'_>, forms: &mut TextForms, name: u16) -> bool
+    requires { AreForms pool.now forms.now }
+    ensures told { result ≡ on_text pool.now name (λ t. not (is_init t || is_method_name t)) }
+    ensures kept { AreForms pool.now forms.new }
+{
+    match pool.text(name) {
+        Ok(text) if !is_init(text) => !forms.is_method_name(pool, name, text),
+        Ok(_) | Err(_) => false,
+    }
+}
+
 /// Whether a method is named otherwise than methods are.
 #[tactic(auto, unfolding(pool::specs::Lookups::named, crate::specs::release::Constants::is_misnamed))]
 fn is_misnamed(pool: &Pool<'_>, forms: &mut TextForms, name: u16, descriptor: u16) -> bool
@@ -25,13 +38,10 @@ fn is_misnamed(pool: &Pool<'_>, forms: &mut TextForms, name: u16, descriptor: u1
     ensures told { result ≡ is_misnamed pool.now name descriptor }
     ensures kept { AreForms pool.now forms.new }
 {
-    let (Ok(name_text), Ok(text)) = (pool.text(name), pool.text(descriptor)) else {
-        return false;
-    };
-    if !begins_with(text, b'(') || is_init(name_text) {
-        return false;
+    match pool.text(descriptor) {
+        Ok(text) if begins_with(text, b'(') => is_misnamed_method(pool, forms, name),
+        Ok(_) | Err(_) => false,
     }
-    !forms.name(pool, name, name_text).method_name
 }
 
 fn is_field_kind(kind: ReferenceKind) -> bool

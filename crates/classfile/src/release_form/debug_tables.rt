@@ -1,8 +1,9 @@
 //! Debug tables of a Code attribute (JVMS 4.7.12 to 4.7.14): line numbers and local variables.
-ghost use Rattle.std.specs.Prelude.{◌≡◌, ◌++◌, ◌||◌, map, length, nat_le, option_map, IfOk};
+ghost use Rattle.std.specs.Prelude.{◌≡◌, ◌++◌, ◌||◌, map, length, nat_le, option_map, IfOk, IfSome};
 ghost use Rattle.std.specs.List.{list_any, flat_map};
 ghost use Rattle.classfile.specs.AttributeForm.{on_body};
 ghost use Rattle.classfile.specs.declared.release_form.debug_tables.VariableTable.TheVariants as tables;
+ghost use Rattle.classfile.specs.private.TableBodies.{has_line_behind, are_misshaped, are_bad_bodies, AreJudged};
 ghost use Rattle.classfile.specs.private.TextForms.{AreForms};
 ghost use Rattle.classfile.specs.release.DebugTables.{first_start, starts_in, starts_of, first_variable, variables_in, variables_of, body_named, bodies_named, variables_named, has_bad_line, is_misshaped, has_misshaped, lacks_text, passes_code, is_unnamed, is_wide, last_index, is_undescribed, is_bad_row, types_named, has_bad_variables, has_bad_table, have_bad_table};
 ghost use Rattle.classfile.specs.Views.{attribute_view, code_view, nested_view};
@@ -11,10 +12,12 @@ use crate::attribute::Attribute;
 use crate::code::CodeAttr;
 use crate::indices::{ConstantKind, lacks};
 use crate::layouts::has_count;
-use crate::location::is_named;
+use crate::location::{is_named, is_text};
 use crate::nested::NestedAttribute;
 use crate::numbers::number;
+use crate::release_form::few_rows::{self, FEW, Rows};
 use crate::release_form::repeated_rows::are_repeated;
+use crate::release_form::table_bodies::{TableBodies, only_bodies};
 use crate::text_forms::TextForms;
 use names::Text;
 use pool::Pool;
@@ -37,7 +40,7 @@ pub struct Variable {
 
 /// A table of local variables, or of their types.
 #[derive(Clone, Copy)]
-enum VariableTable {
+pub enum VariableTable {
     /// LocalVariableTable (JVMS 4.7.13).
     Variables,
     /// LocalVariableTypeTable (JVMS 4.7.14).
@@ -86,9 +89,8 @@ fn body_named<'a>(pool: &Pool<'_>, name: &str, attribute: &NestedAttribute<'a>) 
     ensures { option_map (λ b. b.now) result ≡ body_named pool.now name.now (nested_view attribute.now) }
 {
     match attribute {
-        NestedAttribute::Numbers { numbers, .. } if numbers.layout.name == name => {
-            Some(numbers.body)
-        }
+        NestedAttribute::Numbers { numbers, .. }
+            if is_text(numbers.layout.name.as_bytes(), name.as_bytes()) => { Some(numbers.body) }
         NestedAttribute::Raw { name: own, body } if is_named(pool, *own, name.as_bytes()) => {
             Some(body)
         }
@@ -127,7 +129,7 @@ fn has_misshaped(pool: &Pool<'_>, code: &CodeAttr<'_>) -> bool
 }
 
 /// A local variable, and the bytes behind its row.
-fn first_variable(rows: &[u8]) -> Option<(Variable, &[u8])>
+pub fn first_variable(rows: &[u8]) -> Option<(Variable, &[u8])>
     ensures { option_map (λ x. (x.0, x.1.now)) result ≡ first_variable rows.entry.now }
 {
     let [a, b, c, d, e, f, g, h, i, j, behind @ ..] = rows else {
@@ -203,7 +205,7 @@ fn is_unnamed(pool: &Pool<'_>, forms: &mut TextForms, variable: Variable) -> boo
     ensures kept { AreForms pool.now forms.new }
 {
     match pool.text(variable.name) {
-        Ok(name) => !forms.name(pool, variable.name, name).unqualified_name,
+        Ok(name) => !forms.is_unqualified_name(pool, variable.name, name),
         Err(_) => true,
     }
 }
@@ -225,6 +227,13 @@ fn last_index(pool: &Pool<'_>, variable: Variable) -> usize
     }
 }
 
+/// Whether the last index is not below so many. Of most local variables the descriptor does not matter.
+fn passes_locals(pool: &Pool<'_>, max_locals: usize, variable: Variable) -> bool
+    ensures { result ≡ nat_le max_locals (last_index pool.now variable) }
+{
+    usize::from(variable.index) + 1 >= max_locals && last_index(pool, variable) >= max_locals
+}
+
 /// Whether the index leads to no descriptor of a field.
 #[tactic(auto, unfolding(pool::specs::Lookups::text_at, crate::specs::Indices::is_bad, crate::specs::Indices::is_other))]
 fn is_undescribed(pool: &Pool<'_>, forms: &mut TextForms, index: u16) -> bool
@@ -233,13 +242,13 @@ fn is_undescribed(pool: &Pool<'_>, forms: &mut TextForms, index: u16) -> bool
     ensures kept { AreForms pool.now forms.new }
 {
     match pool.text(index) {
-        Ok(descriptor) => !forms.descriptor(pool, index, descriptor).field,
+        Ok(descriptor) => !forms.is_field_descriptor(pool, index, descriptor),
         Err(_) => true,
     }
 }
 
 /// Whether a row of such a table is bad by itself.
-fn is_bad_row(
+pub fn is_bad_row(
     table: VariableTable,
     pool: &Pool<'_>,
     forms: &mut TextForms,
@@ -256,7 +265,7 @@ fn is_bad_row(
     let max_locals = usize::from(code.max_locals);
     match table {
         VariableTable::Variables => {
-            is_undescribed(pool, forms, row.descriptor) || last_index(pool, row) >= max_locals
+            is_undescribed(pool, forms, row.descriptor) || passes_locals(pool, max_locals, row)
         }
         VariableTable::Types => {
             lacks(pool, ConstantKind::Utf8, row.descriptor) || usize::from(row.index) >= max_locals
@@ -339,9 +348,9 @@ fn has_bad_variables(
     Ok(bad)
 }
 
-/// Whether a debug table of a Code attribute is bad.
+/// Whether a debug table of a Code attribute is bad, of which it may have many.
 #[tactic(auto, unfolding(crate::specs::release::DebugTables::has_bad_table))]
-fn has_bad_table(
+fn many_are_bad(
     alloc: Global,
     major: u16,
     pool: &Pool<'_>,
@@ -356,6 +365,79 @@ fn has_bad_table(
         return Ok(true);
     }
     has_bad_variables(alloc, major, pool, forms, code)
+}
+
+/// Whether a line begins at or behind an offset, if there is a LineNumberTable.
+fn lines_pass(end: usize, lines: Option<&[u8]>) -> bool
+    ensures { result ≡ has_line_behind end lines.entry }
+{
+    match lines {
+        Some(body) => has_line_behind(end, body),
+        None => false,
+    }
+}
+
+/// Whether the body of a LocalVariableTypeTable, if there is one, is not a count and as many rows.
+fn are_misshaped(types: Option<&[u8]>) -> bool
+    ensures { result ≡ are_misshaped types.entry }
+{
+    match types {
+        Some(body) => !has_count(10, body),
+        None => false,
+    }
+}
+
+/// Whether one of the debug tables with these bodies is bad.
+fn few_are_bad(
+    pool: &Pool<'_>,
+    forms: &mut TextForms,
+    code: &CodeAttr<'_>,
+    bodies: TableBodies<'_>,
+) -> bool
+    requires { AreForms pool.now forms.now }
+    ensures told { result ≡ are_bad_bodies pool.now (code_view code.now) bodies.entry }
+    ensures kept { AreForms pool.now forms.new }
+{
+    if lines_pass(code.code.len(), bodies.lines) || are_misshaped(bodies.types) {
+        return true;
+    }
+    let (variables, types) = (Rows::of(bodies.variables), Rows::of(bodies.types));
+    few_rows::are_bad(pool, forms, code, variables, types)
+}
+
+/// The bodies of the debug tables of a Code attribute, if there is at most one of each name, and each has few rows of
+/// local variables. Class files have types of local variables from major version 49 on.
+fn few_bodies<'a>(major: u16, pool: &Pool<'_>, code: &CodeAttr<'a>) -> Option<TableBodies<'a>>
+    ensures { IfSome result (AreJudged major pool.now (code_view code.now)) }
+{
+    let mut bodies = only_bodies(pool, &code.attributes)?;
+    if major < 49 {
+        bodies.types = None;
+    }
+    let (variables, types) = (Rows::of(bodies.variables), Rows::of(bodies.types));
+    if variables.count <= FEW && types.count <= FEW {
+        Some(bodies)
+    } else {
+        None
+    }
+}
+
+/// Whether a debug table of a Code attribute is bad.
+fn has_bad_table(
+    alloc: Global,
+    major: u16,
+    pool: &Pool<'_>,
+    forms: &mut TextForms,
+    code: &CodeAttr<'_>,
+) -> Result<bool, AllocError>
+    requires { AreForms pool.now forms.now }
+    ensures told { IfOk result (λ r. r ≡ has_bad_table major pool.now (code_view code.now)) }
+    ensures kept { AreForms pool.now forms.new }
+{
+    match few_bodies(major, pool, code) {
+        Some(bodies) => Ok(few_are_bad(pool, forms, code, bodies)),
+        None => many_are_bad(alloc, major, pool, forms, code),
+    }
 }
 
 /// Whether a debug table of a Code attribute among these is bad, in a class of this major version.

@@ -1,7 +1,9 @@
 //! Attributes of which a table may have one (JVMS 4.7.6 to 4.7.29), beside those that are judged in every class.
-ghost use Rattle.std.specs.Prelude.{◌≡◌, map};
+ghost use Rattle.std.specs.Prelude.{◌≡◌, true, map, length, nat_le, nat_lt, count_by};
+ghost use Rattle.std.specs.List.{list_all};
 ghost use Rattle.classfile.specs.AttributeForm.{on_body};
 ghost use Rattle.classfile.specs.NumberForm.{on_numbers};
+ghost use Rattle.classfile.specs.private.IndexColumns.{is_long};
 ghost use Rattle.classfile.specs.release.Attributes.{singles_in, has_name, single_stands_twice, singles_stand_twice, code_has_twice, codes_have_twice, component_has_twice, components_have_twice, records_have_twice, is_numbers_of, have_numbers_of, are_of_two_nests};
 ghost use Rattle.classfile.specs.release.Views.{single_view};
 ghost use Rattle.classfile.specs.Views.{attribute_view, class_attribute_view, code_view, component_view};
@@ -9,7 +11,7 @@ ghost use Rattle.classfile.specs.Views.{attribute_view, class_attribute_view, co
 use crate::attribute::Attribute;
 use crate::class_attribute::ClassAttribute;
 use crate::component::Component;
-use crate::location::{Location, is_named};
+use crate::location::{Location, is_named, is_text};
 use crate::repeated_attributes::Tabled;
 use pool::Pool;
 
@@ -109,7 +111,42 @@ fn any_stands_twice<A: Tabled>(
     singles_in(location).iter().any(|single| single_stands_twice(major, pool, attributes, single))
 }
 
-/// Whether an attribute of which there may be one stands twice in the table of a class of this major version.
+/// The least length of a name of an attribute of which there may be one.
+fn least_length(location: Location) -> usize
+    ensures { list_all (λ s. nat_le result (length s.name)) (singles_in location) ≡ true }
+{
+    match location {
+        Location::Class { .. } => 15,
+        Location::Field | Location::RecordComponent => 25,
+        Location::Method => 16,
+        Location::Code => 29,
+    }
+}
+
+/// Whether the name of an attribute is so long.
+fn is_long<A: Tabled>(pool: &Pool<'_>, least: usize, attribute: &A) -> bool
+    ensures { result ≡ is_long pool.now least (A.attribute attribute.now) }
+{
+    match pool.text(attribute.name()) {
+        Ok(name) => name.bytes().len() >= least,
+        Err(_) => false,
+    }
+}
+
+/// Whether the names of two attributes are so long.
+fn two_are_long<A: Tabled>(pool: &Pool<'_>, least: usize, attributes: &[A]) -> bool
+    ensures { result ≡ nat_lt 1 (count_by (is_long pool.now least) (map A.attribute attributes.now)) }
+{
+    attributes.len() > 1
+        && attributes
+            .iter()
+            .filter(|a| is_long(pool, least, *a))
+            .count()
+            > 1
+}
+
+/// Whether an attribute of which there may be one stands twice in the table of a class of this major version. Most
+/// tables have at most one attribute whose name is as long as the names of these are.
 pub fn singles_stand_twice<A: Tabled>(
     major: u16,
     pool: &Pool<'_>,
@@ -118,7 +155,8 @@ pub fn singles_stand_twice<A: Tabled>(
 ) -> bool
     ensures { result ≡ singles_stand_twice major pool.now location (map A.attribute attributes.now) }
 {
-    attributes.len() > 1 && any_stands_twice(major, pool, location, attributes)
+    two_are_long(pool, least_length(location), attributes)
+        && any_stands_twice(major, pool, location, attributes)
 }
 
 fn code_has_twice(major: u16, pool: &Pool<'_>, attribute: &Attribute<'_>) -> bool
@@ -181,7 +219,9 @@ fn is_numbers_of(name: &str, attribute: &ClassAttribute<'_>) -> bool
     ensures { result ≡ on_numbers (is_numbers_of name.now) (class_attribute_view attribute.now) }
 {
     match attribute {
-        ClassAttribute::Numbers { numbers, .. } => numbers.layout.name == name,
+        ClassAttribute::Numbers { numbers, .. } => {
+            is_text(numbers.layout.name.as_bytes(), name.as_bytes())
+        }
         ClassAttribute::Record { .. } | ClassAttribute::Raw { .. } => false,
     }
 }

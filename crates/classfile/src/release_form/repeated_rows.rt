@@ -9,9 +9,6 @@ use crate::release_form::debug_tables::Variable;
 use std::alloc::{AllocError, Global};
 use std::collections::BTreeSet;
 
-/// So many rows are compared one with the other, which takes less time than a set of them.
-const FEW: usize = 16;
-
 /// A row as it is told from others: its start, its length, its name and its index.
 type Key = ((u16, u16), (u16, u16));
 
@@ -53,34 +50,14 @@ impl MetRows {
     }
 }
 
-fn are_same(row: Variable, other: Variable) -> bool
+/// Whether two rows have one name for one place, from one offset to another.
+pub fn are_same(row: Variable, other: Variable) -> bool
     ensures { result ≡ are_same row other }
 {
     row.start == other.start
         && row.length == other.length
         && row.name == other.name
         && row.index == other.index
-}
-
-/// Whether the row stands among these.
-fn is_among(row: Variable, rows: &[Variable]) -> bool
-    ensures { result ≡ list_any (are_same row) rows.now }
-{
-    rows.iter().any(|other| are_same(row, *other))
-}
-
-/// Whether one of few rows stands twice.
-fn few_have_twice(rows: &[Variable]) -> bool
-    ensures { result ≡ has_twice are_same rows.now }
-{
-    let mut rest = rows;
-    while let [row, behind @ ..] = rest {
-        if is_among(*row, behind) {
-            return true;
-        }
-        rest = behind;
-    }
-    false
 }
 
 /// Whether one of the rows stands twice; otherwise all are met.
@@ -95,30 +72,6 @@ fn meet_all(met: &mut MetRows, rows: &[Variable]) -> Result<bool, AllocError>
         }
     }
     Ok(false)
-}
-
-/// Whether none of these is the row.
-fn is_alone(rows: &[Variable], row: Variable) -> bool
-    ensures { result ≡ is_alone rows.now row }
-{
-    !rows.iter().any(|other| are_same(*other, row))
-}
-
-/// Whether one of few types has no row among few local variables.
-fn one_of_few_is_alone(variables: &[Variable], types: &[Variable]) -> bool
-    ensures { result ≡ list_any (is_alone variables.now) types.now }
-{
-    types.iter().any(|row| is_alone(variables, *row))
-}
-
-/// Whether one of few types has no row among few local variables, where there are any.
-fn few_are_alone(variables: &[Variable], types: &[Variable]) -> bool
-    ensures { result ≡ are_alone variables.now types.now }
-{
-    match variables {
-        [] => false,
-        [_, ..] => one_of_few_is_alone(variables, types),
-    }
 }
 
 /// Whether one of the types has no row among the local variables that were met.
@@ -145,8 +98,9 @@ fn are_alone(met: &MetRows, variables: &[Variable], types: &[Variable]) -> bool
     }
 }
 
-/// Whether rows are repeated, of which each is met.
-fn many_are_repeated(
+/// Whether a row of the local variables stands twice, or one of their types stands twice or without its row among the
+/// local variables.
+pub fn are_repeated(
     alloc: Global,
     variables: &[Variable],
     types: &[Variable],
@@ -159,19 +113,4 @@ fn many_are_repeated(
         return Ok(true);
     }
     Ok(are_alone(&met, variables, types))
-}
-
-/// Whether a row of the local variables stands twice, or one of their types stands twice or without its row among the
-/// local variables.
-pub fn are_repeated(
-    alloc: Global,
-    variables: &[Variable],
-    types: &[Variable],
-) -> Result<bool, AllocError>
-    ensures { IfOk result (λ r. r ≡ are_repeated variables.now types.now) }
-{
-    if variables.len() > FEW || types.len() > FEW {
-        return many_are_repeated(alloc, variables, types);
-    }
-    Ok(few_have_twice(variables) || few_have_twice(types) || few_are_alone(variables, types))
 }

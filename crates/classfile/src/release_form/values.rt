@@ -7,6 +7,7 @@ ghost use Rattle.classfile.specs.Views.{attribute_view};
 ghost use Rattle.pool.specs.Views.{view};
 
 use crate::attribute::Attribute;
+use crate::location::is_text;
 use crate::numbers::Numbers;
 use names::Text;
 use pool::{Constant, Pool};
@@ -37,7 +38,7 @@ fn is_other_value(pool: &Pool<'_>, descriptor: &[u8], index: u16) -> bool
 fn has_other_value(pool: &Pool<'_>, descriptor: &[u8], numbers: &Numbers<'_>) -> bool
     ensures { result ≡ has_other_value pool.now descriptor.now (numbers_view numbers.now) }
 {
-    if numbers.layout.name != "ConstantValue" {
+    if !is_text(numbers.layout.name.as_bytes(), b"ConstantValue") {
         return false;
     }
     match numbers.get(0, 0) {
