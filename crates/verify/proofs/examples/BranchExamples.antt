@@ -25,12 +25,14 @@ method map code = record {
   major_version = 52;
   class = codes "K";
   superclass = Some (codes "java/lang/Object");
+  interfaces = [];
   fields = [];
   is_static = true;
   is_init = false;
   type = record { params = []; result = None };
   bootstraps = [];
   dynamic = false;
+  release = false;
 }
 
 -- iconst_0; istore_0; iinc 0 1; iload_0; ifne -4; return

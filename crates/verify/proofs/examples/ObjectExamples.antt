@@ -48,12 +48,14 @@ method_that is_init params result map exceptions code = record {
   major_version = 52;
   class = codes "K";
   superclass = Some (codes "java/lang/Object");
+  interfaces = [];
   fields = [];
   is_static = not is_init;
   is_init = is_init;
   type = record { params = params; result = result };
   bootstraps = [];
   dynamic = false;
+  release = false;
 }
 
 abbrev method : List FieldDescriptor → Option FieldDescriptor → Option (List ℕ) → List ExceptionEntry → List (ℕ × Act) → Method Act

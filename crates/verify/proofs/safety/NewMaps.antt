@@ -22,12 +22,14 @@ with_map code = record {
   major_version = 52;
   class = codes "K";
   superclass = Some (codes "java/lang/Object");
+  interfaces = [];
   fields = [];
   is_static = true;
   is_init = false;
   type = record { params = []; result = None };
   bootstraps = [];
   dynamic = false;
+  release = false;
 }
 
 abbrev makes_one : List (ℕ × Act)
