@@ -57,9 +57,18 @@ fn judges_interfaces(alloc: Global) -> bool {
     let versions = profile.known_versions();
     let (i, j) = (interface(b'I'), interface(b'J'));
     let known = [
-        FileRead::Bytes { bytes: &O, versions },
-        FileRead::Bytes { bytes: &i, versions },
-        FileRead::Bytes { bytes: &j, versions },
+        FileRead::Bytes {
+            bytes: &O,
+            versions,
+        },
+        FileRead::Bytes {
+            bytes: &i,
+            versions,
+        },
+        FileRead::Bytes {
+            bytes: &j,
+            versions,
+        },
     ];
     match verify_among_under(alloc, profile, class, &known, hasher()) {
         Ok(report) => is_refused(&report.methods),

@@ -232,7 +232,6 @@ constructors_are_said m index u = (used_so m index u (method_at m.constant_pool 
 
 -- ---- interfaces
 
-
 listed : (name : List ℕ) (names : List (List ℕ)) → list_any (λ other. bytes_eq other name) names ≡ false → IsAmong name names → ⊥
 listed name [] e i = elim i [ ]
 listed name (n ∷ ns) e (inl p) =

@@ -19,7 +19,6 @@ returns-in_ok-field-in-PutField c =
     puts (method_view c.args.method.now) (act_view c.args.act.now) c.args.named.now c.requires c.in-PutField.index c.in_ok-field-in-PutField.field-0
     (sym c.in_ok-field-in-PutField.ensures) (ap act_view c.in-PutField.is)
 
-
 pub returns-in_ok-method-in-InvokeVirtual : goal.returns-in_ok-method-in-InvokeVirtual
 returns-in_ok-method-in-InvokeVirtual c =
     let m = method_view c.args.method.now in
