@@ -66,7 +66,7 @@ fn meet_superclass<'a>(class: &ClassFile<'a>, names: &mut MetNames<'a>) -> Resul
 }
 
 impl<'a> DirectClasses<'a> {
-    /// Those of a class. It fails only if memory runs out.
+    /// Finds them in a class file. It fails only if memory runs out.
     pub fn new(alloc: Global, class: &ClassFile<'a>) -> Result<DirectClasses<'a>, AllocError>
         ensures { IfOk result (AreDirect class.now) }
     {
