@@ -15,12 +15,11 @@ use Rattle.insn.specs.Meanings.{Act}
 use Rattle.frames.specs.FrameFact.{FrameFact}
 use Rattle.rules.specs.declared.naming.Named.{Named}
 use Rattle.rules.specs.declared.reason.Reason.{Reason}
-use Rattle.rules.specs.Constants.{is_init_name}
 use Rattle.rules.specs.declared.protected_members.Use as uses
 use Rattle.rules.specs.Guards.{field, method, AnswersCall, IsCallUse, IsReference, IsUse, Uses}
 use Rattle.rules.specs.Naming.{field_index, method_index, kept_field, kept_method, IsNamed}
 use Rattle.rules.specs.Outcomes.{Judges}
-use Rattle.rules.specs.Protected.{Use, field_use, method_reference, method_use, constructor_use, used_by, object_answer, object_beneath, object_conditions, use_conditions}
+use Rattle.rules.specs.Protected.{Use, field_use, method_reference, method_use, used_by, object_answer, object_beneath, object_conditions, use_conditions}
 
 module _ (m : Method Act) (a : Act) (n : Named) (is : IsNamed m a n) (i : ℕ) where
   field_there : (f : RawField) → kept_field n ≡ Some f → field_index a ≡ Some i → field_at m.constant_pool i ≡ Some (field_constant_view f)
@@ -75,29 +74,6 @@ module _ (c : MethodConstant) where
         count = count;
       }
       by (array_type component) q h = cc
-
-  pub no_call : c.interface ≡ true → method_use c c.interface c.class ≡ None
-  no_call is = ap (λ b. method_use c b c.class) is
-
-  pub no_class_call : is_class_type c.class ≡ false → method_use c c.interface c.class ≡ None
-  no_class_call other = by c.interface c.class other
-    where
-      by : (b : Bool) (t : ReferenceType) → is_class_type t ≡ false → method_use c b t ≡ None
-      by true t h = refl
-      by false (class_type name) h = cc
-      by false (array_type component) h = refl
-
--- a constructor that is called, as a class of a release calls it
-pub constructs : (m : Method Act) (i : ℕ) (c : MethodConstant) → method_at m.constant_pool i ≡ Some c → m.release ≡ true → is_init_name c ≡ true
-    → used_by m (acts.InvokeSpecial i) ≡ method_use c c.interface c.class
-constructs m i c there release named =
-    ap (option_and_then (constructor_use m.release)) there ∙ (λ j. if release j && named j then method_use c c.interface c.class else None)
-
--- no other method, and none of a class without a release
-pub constructs_none : (m : Method Act) (i : ℕ) (c : MethodConstant) → method_at m.constant_pool i ≡ Some c → (m.release && is_init_name c) ≡ false
-    → used_by m (acts.InvokeSpecial i) ≡ None
-constructs_none m i c there other =
-    ap (option_and_then (constructor_use m.release)) there ∙ ap (λ b. if b then method_use c c.interface c.class else None) other
 
 pub judged : (classes : List ClassFact) (m : Method Act) (act : Act) (f : FrameFact) (u : Use) (r : Result Unit Reason) → used_by m act ≡ Some u
     → is_guarded classes m.class u.reference ≡ true → (a : Outcome) → a ≡ object_answer classes m.class (object_beneath u f) → Judges (object_conditions a) r

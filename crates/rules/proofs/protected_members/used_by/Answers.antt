@@ -4,9 +4,9 @@ use Rattle.pool.specs.ConstantMeanings.{MethodConstant, method_at}
 use Rattle.pool.specs.ConstantViews.{method_constant_view}
 use Rattle.insn.specs.Views.{act_view}
 use Rattle.rules.specs.Bodies.{method_view}
-use Rattle.rules.proofs.Using.{gets, puts, called_there, calls, constructs, constructs_none}
+use Rattle.rules.proofs.Using.{gets, puts, called_there, calls}
 use Rattle.rules.specs.Naming.{method_index}
-use Rattle.rules.specs.Protected.{constructor_use, method_use, used_by}
+use Rattle.rules.specs.Protected.{method_use, used_by}
 use Rattle.rules.proofs.protected_members.used_by.Goals as goal
 
 pub returns-in_ok-field-in-GetField : goal.returns-in_ok-field-in-GetField
