@@ -1,5 +1,5 @@
 -- The inheritance of one class more, and its consequences for the references of a class.
-use Rattle.std.proofs.Common.{◌≡◌, ◌⊎◌, inl, inr, ◌==◌, ◌&&◌, ◌%◌, slice_set, ℕ, zero, suc, Bool, true, false, not, cond, List, [], ◌∷◌, ◌++◌, find, length, slice_get, Option, Some, None, IsSome, refl, ap, sym, ◌∙◌, subst, arith}
+use Rattle.std.proofs.Common.{◌≡◌, ◌⊎◌, inl, inr, ◌==◌, ◌&&◌, ◌%◌, slice_set, ℕ, suc, Bool, true, false, not, cond, List, [], ◌∷◌, ◌++◌, length, slice_get, Option, Some, None, IsSome, refl, ap, sym, ◌∙◌, subst, arith}
 use Rattle.std.specs.Option.{option_and_then}
 use Rattle.std.specs.Str.{bytes_eq}
 use Rattle.std.proofs.lemmas.Bool.{false≢true, eqb-true, eqb-false}
@@ -8,17 +8,20 @@ use Rattle.std.proofs.lemmas.Slice.Eq.{bytes_eq-Decides}
 use Rattle.hierarchy.specs.declared.ancestry.Ancestry.{Ancestry}
 use Rattle.hierarchy.specs.declared.inheritance.Inherited.{Inherited}
 use Rattle.hierarchy.specs.declared.member_numbers.MemberNumbers.{MemberNumbers}
+use Rattle.hierarchy.specs.declared.numbered_members.Numbered.TheVariants as numbered
 use Rattle.hierarchy.specs.declared.versions.Versions.{Versions}
 use Rattle.hierarchy.specs.private.Above.{class_above, number_of}
 use Rattle.hierarchy.specs.private.Ancestry.{IsAncestry, IsOwn, facts_at, place_among}
 use Rattle.hierarchy.specs.Answer.{on_chain}
 use Rattle.hierarchy.specs.Class.{MemberFact, ClassFact, class_of, world_of, IsSubclass}
 use Rattle.hierarchy.specs.private.Flags.{AreNumbers, KeepNumbers}
-use Rattle.hierarchy.specs.private.Inheritance.{Declares, Inherits, InheritsAny, InheritSoFar, IsCoded, IsProtectedAt, free, kept, KeepVersions, NumberAll, Tells, asked_number, declared_value, has_length}
-use Rattle.hierarchy.specs.private.MemberNumbers.{member_number}
-use Rattle.hierarchy.specs.Nearest.{MemberReference, Declaration, declared_by, is_named, nearest, IsNearest, here, above, is_elsewhere, is_protected_elsewhere, is_guarded, package_of}
+use Rattle.hierarchy.specs.private.NumberedMembers.{NumberAll}
+use Rattle.hierarchy.specs.private.Inheritance.{Declares, Inherits, InheritsAny, InheritSoFar, IsCoded, IsSketched, IsProtectedAt, free, kept, declared_value, has_length}
+use Rattle.hierarchy.specs.private.MemberNumbers.{member_number, asked_number}
+use Rattle.hierarchy.specs.Nearest.{MemberReference, Declaration, declared_by, nearest, IsNearest, here, above, is_elsewhere, is_protected_elsewhere, is_guarded, package_of}
 use Rattle.hierarchy.specs.Rules.{IsHierarchy}
-use Rattle.hierarchy.specs.private.Versions.{IsVersion, Puts, value_at}
+use Rattle.hierarchy.specs.private.Sketches.{HaveSketches, has_sketch}
+use Rattle.hierarchy.specs.private.Versions.{IsVersion, Puts, value_at, KeepVersions, Tells}
 use Rattle.hierarchy.specs.World.{superclass_in, IsSubclassIn}
 use Rattle.hierarchy.specs.World as world
 use Rattle.hierarchy.proofs.Chain.{shorten}
@@ -26,18 +29,9 @@ use Rattle.hierarchy.proofs.Guards.{TextNumbers, at_last, named_is}
 use Rattle.hierarchy.proofs.NameLengths.{noted_here, noted_still}
 use Rattle.hierarchy.proofs.Names.{none_some, some_same}
 use Rattle.hierarchy.proofs.Nearby.{computed}
+use Rattle.hierarchy.proofs.Sketching.{in_list, still_zero, unset}
 use Rattle.hierarchy.proofs.Subclass.{alone, chain_met, met_chain}
 use Rattle.hierarchy.proofs.Upward.{named, own_above, super_there}
-
--- a declaration of a class is one of its members
-in_list : (r : MemberReference) (ms : List MemberFact) (m : MemberFact) → find (is_named r) ms ≡ Some m → (i : ℕ) × (slice_get ms i ≡ Some m) × (is_named r m ≡ true)
-in_list r [] m e = absurd (none_some e)
-in_list r (x ∷ ms) m e = by (is_named r x) refl e (in_list r ms m)
-  where
-    by : (b : Bool) → is_named r x ≡ b → cond b (Some x) (find (is_named r) ms) ≡ Some m → (find (is_named r) ms ≡ Some m → (i : ℕ) × (slice_get ms i ≡ Some m) × (is_named r m ≡ true))
-        → (i : ℕ) × (slice_get (x ∷ ms) i ≡ Some m) × (is_named r m ≡ true)
-    by true f e next = (zero, e, subst (λ w. is_named r w ≡ true) (some_same e) f)
-    by false f e next = let t = next e in (suc t.0, t.1, t.2)
 
 -- ---- versions that stay
 
@@ -61,13 +55,15 @@ module _ (classes all : List ClassFact) (numbers : MemberNumbers) (old new : Ver
     in_package = texts (package_of c.name) i.package_number x.in_package;
     lengths = x.lengths;
     long = x.long;
+    sketched = λ r k e none. keep.same i.members x.is_members k ∙ x.sketched r k e none;
+    wide = x.wide;
   }
 
 -- ---- the class above
 
 module _ (classes : List ClassFact) where
   -- a class is below another where it is that one, or its superclass is below it
-  chain_at : (c : ClassFact) (b : List ℕ) → IsOwn classes c → IsSubclass classes c.name b → (c.name ≡ b) ⊎ ((s : List ℕ) × (c.superclass ≡ Some s) × IsSubclass classes s b)
+  pub chain_at : (c : ClassFact) (b : List ℕ) → IsOwn classes c → IsSubclass classes c.name b → (c.name ≡ b) ⊎ ((s : List ℕ) × (c.superclass ≡ Some s) × IsSubclass classes s b)
   chain_at c b own p = by c.name refl p
     where
       by : (a : List ℕ) → a ≡ c.name → IsSubclassIn (world_of classes) a b → (c.name ≡ b) ⊎ ((s : List ℕ) × (c.superclass ≡ Some s) × IsSubclass classes s b)
@@ -220,10 +216,27 @@ module _ (classes all : List ClassFact) (a : Ancestry) (is : all ≡ facts_at a.
         by None x = x.2
         by (Some d) x = x.long
 
+    -- so there is for sketches
+    pub sketches_wide : length i.sketches ≡ 256
+    sketches_wide = by (class_above classes c) from
+      where
+        by : (o : Option ClassFact) → InheritsAny classes all numbers old packages o i → length i.sketches ≡ 256
+        by None x = x.3
+        by (Some d) x = x.wide
+
+    -- the values above are 0 where a name has none of these sketches and of others
+    pub above_sketched : (sketches : List Bool) → ((name : List ℕ) → has_sketch i.sketches name ≡ true → has_sketch sketches name ≡ true) → (vs : Versions) → KeepVersions old vs → IsSketched numbers sketches vs i.members
+    above_sketched sketches stay vs keep r k e none = keep.same i.members members_there k ∙ by (class_above classes c) from
+      where
+        by : (o : Option ClassFact) → InheritsAny classes all numbers old packages o i → value_at old i.members k ≡ 0
+        by None x = ap (λ v. value_at old v k) x.1 ∙ far.zeros k
+        by (Some d) x = x.sketched r k e (unset i.sketches sketches stay r.name none)
+
     module _ (ancestors members number : ℕ) (puts : Puts old one i.ancestors p 1 ancestors) (declares : Declares numbers one new c.members (suc p) i.members members)
-        (texts : KeepNumbers packages more) (named_now : number_of more (package_of c.name) ≡ Some number) (texts_good : AreNumbers more) where
+        (texts : KeepNumbers packages more) (named_now : number_of more (package_of c.name) ≡ Some number) (texts_good : AreNumbers more)
+        (sketches : List Bool) (stay : (name : List ℕ) → has_sketch i.sketches name ≡ true → has_sketch sketches name ≡ true) (own_noted : HaveSketches numbered.Protected sketches c.members) (wide : length sketches ≡ 256) where
       abbrev made : Inherited
-      made = record { ancestors = ancestors; members = members; package_number = number; lengths = slice_set i.lengths (length c.name % 64) true }
+      made = record { ancestors = ancestors; members = members; package_number = number; lengths = slice_set i.lengths (length c.name % 64) true; sketches = sketches }
 
       first : KeepVersions old one
       first = put_keeps old one i.ancestors p 1 ancestors puts
@@ -308,6 +321,8 @@ module _ (classes all : List ClassFact) (a : Ancestry) (is : all ≡ facts_at a.
         in_package = named_now;
         lengths = noted;
         long = length-set i.lengths (length c.name % 64) true ∙ lengths_long;
+        sketched = λ r k e none. declares.values r k e ∙ still_zero sketches c.members (suc p) (value_at one i.members k) own_noted r none (above_sketched sketches stay one first r k e none);
+        wide = wide;
       }
 
       pub inherit_next : (then : List Inherited) → length of ≡ p → then ≡ of ++ made ∷ [] → InheritSoFar classes all numbers new more then
@@ -369,8 +384,8 @@ module _ (classes all : List ClassFact) (a : Ancestry) (is : all ≡ facts_at a.
       found r s d (above {c = y} f t k n) = (y, f)
 
   -- a member that has no number is protected nowhere
-  pub no_number : NumberAll numbers all → (r : MemberReference) → asked_number numbers r ≡ None → (p : ℕ) (c : ClassFact) → slice_get all p ≡ Some c → IsProtectedAt classes all r c.name None
-  no_number numbered r none p c at = free (λ d n. free_of d (nearest_placed r c.name d n p c at refl))
+  pub no_number : NumberAll numbered.Protected numbers all → (r : MemberReference) → asked_number numbers r ≡ None → (p : ℕ) (c : ClassFact) → slice_get all p ≡ Some c → IsProtectedAt classes all r c.name None
+  no_number all_numbered r none p c at = free (λ d n. free_of d (nearest_placed r c.name d n p c at refl))
     where
       numberless : (o : Option ℕ) → o ≡ None → IsSome o → ⊥
       numberless None e s = false≢true s
@@ -389,7 +404,7 @@ module _ (classes all : List ClassFact) (a : Ancestry) (is : all ≡ facts_at a.
               let same = named_is r m t.2 in
               let is_none : member_number numbers m.kind m.name m.descriptor ≡ None =
               (λ i. member_number numbers (sym same.0 i) (sym same.1 i) (sym same.2 i)) ∙ none in
-              absurd (numberless (member_number numbers m.kind m.name m.descriptor) is_none (numbered q d.class at t.0 m t.1 e))
+              absurd (numberless (member_number numbers m.kind m.name m.descriptor) is_none (all_numbered q d.class at t.0 m t.1 e))
 
 -- ---- what is guarded
 

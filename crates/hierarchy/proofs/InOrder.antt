@@ -1,5 +1,5 @@
 -- Classes with all that stand above them: a step upward, and one more class put after the others.
-use Rattle.std.proofs.Common.{◌≡◌, ◌==◌, ℕ, suc, ◌+◌, ◌-◌, ◌<◌, ◌≤◌, Bool, true, false, cond, List, [], ◌∷◌, ◌++◌, get_or, length, slice_get, Option, Some, None, option_map, IsSome, is_some, MatchOption, refl, ap, sym, ◌∙◌, subst, arith}
+use Rattle.std.proofs.Common.{◌≡◌, ◌==◌, ℕ, suc, ◌+◌, ◌-◌, ◌<◌, ◌≤◌, Bool, true, false, cond, List, [], ◌∷◌, ◌++◌, get_or, length, slice_get, take, Option, Some, None, option_map, IsSome, is_some, MatchOption, refl, ap, sym, ◌∙◌, subst, arith}
 use Rattle.std.specs.BTreeMap.{BTreeMap, get, is_at}
 use Rattle.std.specs.Borrow.{Bor}
 use Rattle.std.specs.Cmp.{Equal-is}
@@ -14,12 +14,13 @@ use Rattle.std.proofs.lemmas.Map.Lookups.{exact_unsigned}
 use Rattle.std.proofs.lemmas.Slice.Eq.{bytes_eq-Decides}
 use Rattle.hierarchy.specs.declared.ancestry.Ancestry.{Ancestry}
 use Rattle.hierarchy.specs.declared.summary.Summary.{Summary}
-use Rattle.hierarchy.specs.private.Above.{class_above, upward}
-use Rattle.hierarchy.specs.private.Ancestry.{Adds, AreInTurn, Has, HasAny, IsAncestry, IsOwn, facts_at, place_among}
+use Rattle.hierarchy.specs.private.Above.{class_above, names_of, upward}
+use Rattle.hierarchy.specs.private.Ancestry.{Adds, AreInTurn, Has, HasAny, HavePlace, IsAncestry, IsOwn, KeepClasses, facts_at, first_or, place_among}
 use Rattle.hierarchy.specs.Class.{ClassFact, class_of}
 use Rattle.hierarchy.specs.Places.{place_in}
 use Rattle.hierarchy.specs.Rules.{IsHierarchy}
 use Rattle.hierarchy.specs.Summary.{fact_of}
+use Rattle.hierarchy.proofs.Guarding.{map_more}
 use Rattle.hierarchy.proofs.Guards.{behind, before, at_last}
 use Rattle.hierarchy.proofs.Names.{no_place, none_some, some_same}
 use Rattle.hierarchy.proofs.PlacesKept.{places_are_names}
@@ -54,6 +55,11 @@ module _ (classes : List ClassFact) where
 
   pub one_class : (c d : ClassFact) → IsOwn classes c → IsOwn classes d → c.name ≡ d.name → c ≡ d
   one_class c d e f same = some_same (sym e ∙ ap (class_of classes) same ∙ f)
+
+-- the first stays the first
+pub first_less : (cs : List ClassFact) (c : ClassFact) (o : Option ClassFact) → first_or o (cs ++ c ∷ []) ≡ first_or (Some c) cs
+first_less [] c o = refl
+first_less (x ∷ cs) c o = refl
 
 -- ---- classes as they are kept
 
@@ -182,7 +188,7 @@ module _ (classes : List ClassFact) (old new : Ancestry) (s : Bor Summary) (own 
       ap (λ xs. slice_get xs p) is ∙ before was c p (λ same. absurd (omega (arith, lt, same))) ∙ e
 
   pub put_behind : Adds classes old new c
-  put_behind good above = (record { places = record { leads = leads; exact = exact }; own = owns; order = order }, (length old.classes.items, end))
+  put_behind good above = (record { places = record { leads = leads; exact = exact }; own = owns; order = order }, (length old.classes.items, end), λ d has. (has.0, stays has.0 d has.1))
     where
       leads : (name : List ℕ) (p : ℕ) → place_among classes new.places name ≡ Some p → (d : ClassFact) × (slice_get (facts_at new.classes.items) p ≡ Some d) × (d.name ≡ name)
       leads name p e = by (bytes_eq c.name name) refl (sym (written name) ∙ e)
@@ -229,6 +235,18 @@ module _ (classes : List ClassFact) (old new : Ancestry) (s : Bor Summary) (own 
               let same = eqb-true p (length was) g in
               (at.0, omega (arith, lt, same), stays at.0 x at.1)
           by false g e = let at = good.order p d x e f in (at.0, at.1, stays at.0 x at.2)
+
+-- one name more
+pub placed_more : (classes : List ClassFact) (old new : Ancestry) (names : List (Bor (List ℕ))) (i : ℕ) (d : Bor (List ℕ)) → i < length names → KeepClasses old new
+    → HavePlace classes old (names_of (take i names)) → ((c : ClassFact) → class_of classes (get_or names i d).now ≡ Some c → Has new c) → HavePlace classes new (names_of (take (i + 1) names))
+placed_more classes old new names i d lt kept had here = subst (HavePlace classes new) (sym (map_more (λ (n : Bor (List ℕ)). n.now) names i d lt)) all
+  where
+    all : HavePlace classes new (names_of (take i names) ++ (get_or names i d).now ∷ [])
+    all j name c e f = by (j == length (names_of (take i names))) (sym (at_last (names_of (take i names)) (get_or names i d).now j) ∙ e)
+      where
+        by : (b : Bool) → cond b (Some (get_or names i d).now) (slice_get (names_of (take i names)) j) ≡ Some name → Has new c
+        by true g = here c (ap (class_of classes) (some_same g) ∙ f)
+        by false g = kept c (had j name c g f)
 
 -- ---- the class above
 

@@ -24,8 +24,14 @@ pub mod Numbering
 pub mod InOrder
 pub mod Descent
 pub mod Numbered
+pub mod Sketching
 pub mod TextPlaces
 pub mod Putting
 pub mod Summarising
 pub mod SameSummaries
 pub mod Lookups
+pub mod Positions
+pub mod Overrides
+pub mod FinalEntries
+pub mod FinalParts
+pub mod FinalAnswers

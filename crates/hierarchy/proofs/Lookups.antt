@@ -10,11 +10,14 @@ use Rattle.hierarchy.specs.declared.inheritance.Inheritance.{Inheritance}
 use Rattle.hierarchy.specs.declared.summary.Summary.{Summary}
 use Rattle.hierarchy.specs.private.Ancestry.{facts_at, place_among}
 use Rattle.hierarchy.specs.Class.{ClassFact, IsSubclass}
-use Rattle.hierarchy.specs.private.Inheritance.{Inherits, has_length, IsCoded, IsInheritance, IsProtectedAt, LooksAt, above, free, kept, nowhere, Tells}
+use Rattle.hierarchy.specs.private.MemberNumbers.{asked_number}
+use Rattle.hierarchy.specs.private.Sketches.{has_sketch}
+use Rattle.hierarchy.specs.private.Versions.{Tells, value_at}
+use Rattle.hierarchy.specs.private.Inheritance.{Inherits, has_length, IsCoded, IsInheritance, IsProtectedAt, LooksAt, above, free, kept, nowhere}
 use Rattle.hierarchy.specs.Nearest.{MemberReference, Declaration, IsNearest, is_guarded}
 use Rattle.hierarchy.specs.Rules.{IsHierarchy}
 use Rattle.hierarchy.specs.Summary.{fact_of}
-use Rattle.hierarchy.proofs.Descent.{apart_free, elsewhere_by, own_free, protected_guards, reach_placed, unprotected_free}
+use Rattle.hierarchy.proofs.Descent.{apart_free, elsewhere_by, no_number, own_free, protected_guards, reach_placed, unprotected_free}
 use Rattle.hierarchy.proofs.InOrder.{read_at}
 use Rattle.hierarchy.proofs.Names.{none_some, some_same}
 
@@ -57,7 +60,7 @@ pub entry_at : (entries : List Inherited) (p : ℕ) → p < length entries → (
 entry_at entries p lt = by (slice_get entries p) refl
   where
     missing : Inherited
-    missing = record { ancestors = 0; members = 0; package_number = 0; lengths = [] }
+    missing = record { ancestors = 0; members = 0; package_number = 0; lengths = []; sketches = [] }
 
     by : (o : Option Inherited) → slice_get entries p ≡ o → (i : Inherited) × (slice_get entries p ≡ Some i)
     by None e = absurd (none_some (sym e ∙ slice_get-get_or entries p missing lt))
@@ -108,6 +111,15 @@ module _ (classes : List ClassFact) (h : Inheritance) (is : IsInheritance classe
   pub inherits_of : (p : ℕ) (i : Inherited) (c : ClassFact) → p < length h.table.of.items → i ≡ get_or h.table.of.items p i → slice_get all p ≡ Some c
       → Inherits classes all h.numbers h.table.versions h.table.packages c i
   inherits_of p i c lt read at = is.inherit.each p c i at (read_at h.table.of.items p i lt read)
+
+  -- a member whose name has none of the sketches of a class is not protected there
+  pub unsketched : (p : ℕ) (i : Inherited) (c : ClassFact) → p < length h.table.of.items → i ≡ get_or h.table.of.items p i → slice_get all p ≡ Some c → (r : MemberReference) → has_sketch i.sketches r.name ≡ false
+      → IsProtectedAt classes all r c.name None
+  unsketched p i c lt read at r none = by (asked_number h.numbers r) refl
+    where
+      by : (o : Option ℕ) → asked_number h.numbers r ≡ o → IsProtectedAt classes all r c.name None
+      by None e = no_number classes all h.ancestry refl is.ancestry h.numbers is.numbered r e p c at
+      by (Some k) e = let x = inherits_of p i c lt read at in coded_none classes all r c.name (value_at h.table.versions i.members k) (x.members r k e) (x.sketched r k e none)
 
   -- ---- what is guarded
 

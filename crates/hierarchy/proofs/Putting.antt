@@ -1,12 +1,11 @@
 -- Values put into a version at once: each by the node that it is for.
-use Rattle.std.proofs.Common.{◌≡◌, ◌⊎◌, inl, inr, ◌==◌, ◌+◌, ◌-◌, ◌*◌, ◌/◌, ◌%◌, ◌<◌, ◌≤◌, ℕ, zero, suc, Bool, true, false, cond, List, [], ◌∷◌, ◌++◌, length, slice_get, Some, refl, ap, sym, ◌∙◌, subst, arith}
-use Rattle.std.proofs.lemmas.Bool.{eq-eqb, ne_eqb, cases_eq, eqb-true, eqb-false}
+use Rattle.std.proofs.Common.{◌≡◌, ◌⊎◌, inl, inr, ◌==◌, ◌+◌, ◌-◌, ◌*◌, ◌/◌, ◌%◌, ◌<◌, ◌≤◌, ℕ, zero, suc, true, cond, List, [], ◌∷◌, ◌++◌, length, slice_get, Some, refl, ap, sym, ◌∙◌, subst, arith}
+use Rattle.std.proofs.lemmas.Bool.{eq-eqb, ne_eqb, cases_eq, eqb-true}
 use Rattle.hierarchy.specs.declared.versions.Node.{Node}
 use Rattle.hierarchy.specs.declared.versions.Put.{Put}
 use Rattle.hierarchy.specs.declared.versions.Split.{Split}
 use Rattle.hierarchy.specs.declared.versions.Versions.{Versions}
-use Rattle.hierarchy.specs.private.Versions.{AreVersions, IsAdded, IsSplit, IsVersion, Most, PutsAll, Takes, node_at, node_below, put_in, value_at}
-use Rattle.hierarchy.proofs.Names.{none_some}
+use Rattle.hierarchy.specs.private.Versions.{AreNamed, AreVersions, IsAdded, IsSplit, IsVersion, Most, Puts, PutsAll, PutsNested, Takes, node_at, node_below, put_in, value_at}
 use Rattle.hierarchy.proofs.Sharing.{at_even, at_odd, down}
 use Rattle.hierarchy.proofs.TextPlaces.{behind_cases, first_stays, last_is}
 
@@ -172,3 +171,28 @@ module _ (old : Versions) (from : ℕ) (good : AreVersions old) (there : IsVersi
         by j (inl z) o = ap (value_at new made) z ∙ a.own ∙ split.top ∙ λ i. put_in puts (sym z i) (value_at old from (sym z i))
         by j (inr n) (inl o) = in_odd j ((j - 1) / 2) (omega (arith, n, o))
         by j (inr n) (inr o) = in_even j ((j - 1) / 2) (omega (arith, n, o))
+
+-- ---- versions of versions
+
+-- a version is named at an index in place of the one before
+module _ (old mid new : Versions) (from outer : ℕ) (puts : List Put) (has made : ℕ) (there : IsVersion old from) (named : AreNamed old from) (all : PutsAll old mid (value_at old from outer) puts has)
+    (one : Puts mid new from outer has made) where
+  same_name : (q : ℕ) → (q ≡ outer → ⊥) → value_at new made q ≡ value_at old from q
+  same_name q n = one.others q n ∙ all.kept from there q
+
+  pub nested : PutsNested old new from outer puts made
+  nested = record {
+    version = one.version;
+    named = λ q. by q (cases_eq q outer);
+    here = λ j. ap (λ v. value_at new v j) one.here ∙ one.kept has all.version j ∙ all.values j;
+    others = λ q n j. ap (λ v. value_at new v j) (same_name q n) ∙ one.kept (value_at old from q) (all.stays _ (named q)) j ∙ all.kept (value_at old from q) (named q) j;
+    keeps = record {
+      good = one.good;
+      stays = λ v e. one.stays v (all.stays v e);
+      same = λ v e j. one.kept v (all.stays v e) j ∙ all.kept v e j;
+    };
+  }
+    where
+      by : (q : ℕ) → (q ≡ outer) ⊎ (q ≡ outer → ⊥) → IsVersion new (value_at new made q)
+      by q (inl e) = subst (IsVersion new) (sym (ap (value_at new made) e ∙ one.here)) (one.stays has all.version)
+      by q (inr n) = subst (IsVersion new) (sym (same_name q n)) (one.stays _ (all.stays _ (named q)))

@@ -1,7 +1,7 @@
 -- The tests of summaries say whether they are the same.
-use Rattle.std.proofs.Common.{◌≡◌, ◌↔◌, ℕ, zero, suc, ◌+◌, ◌<◌, ◌≤◌, Bool, true, false, not, ◌&&◌, Result, Ok, Err, IfOk, arith, bytes_eq, nat_eq, List, [], ◌∷◌, length, drop, get_or, map, Option, Some, None, refl, sym, ◌∙◌, ap}
+use Rattle.std.proofs.Common.{◌≡◌, ◌↔◌, ℕ, zero, suc, ◌+◌, ◌<◌, Bool, true, false, not, ◌&&◌, Result, Ok, Err, IfOk, arith, bytes_eq, nat_eq, List, [], ◌∷◌, length, drop, get_or, map, Option, Some, None, refl, sym, ◌∙◌, ap}
 use Rattle.std.specs.Prelude.{IsTrue}
-use Rattle.std.proofs.lemmas.List.{drop_more, drop_all}
+use Rattle.std.proofs.lemmas.List.{drop_more}
 use Rattle.std.proofs.lemmas.Slice.Eq.{bytes_eq-Decides}
 use Rattle.std.specs.declared.alloc.AllocError.{AllocError}
 use Rattle.std.specs.Borrow.{Bor}
@@ -13,11 +13,13 @@ use Rattle.std.proofs.lemmas.Bool.{false≢true, eqb-true, eqb-false}
 use Rattle.hierarchy.specs.declared.summary.Kind.{Kind}
 use Rattle.hierarchy.specs.declared.summary.Kind.TheVariants.{Field, Method}
 use Rattle.hierarchy.specs.declared.summary.MemberSummary.{MemberSummary}
+use Rattle.hierarchy.specs.declared.summary.Overriding.{Overriding}
+use Rattle.hierarchy.specs.declared.summary.Overriding.TheVariants.{Apart, Open, FinalInPackage, Final}
 use Rattle.hierarchy.specs.private.Above.{Numbers, number_of}
 use Rattle.hierarchy.specs.private.Flags.{AreNumbers}
 use Rattle.hierarchy.specs.Class.{MemberFact, ClassFact}
 use Rattle.hierarchy.specs.Summary.{member_of, text_among}
-use Rattle.hierarchy.specs.private.SameSummaries.{same_flag, same_flags, same_head, same_kind, same_member, same_members, same_name, same_fact}
+use Rattle.hierarchy.specs.private.SameSummaries.{same_flag, same_flags, same_head, same_kind, same_member, same_members, same_name, same_overriding, same_fact}
 use Rattle.hierarchy.proofs.TextPlaces.{among_within}
 use Rattle.hierarchy.proofs.Names.{none_some, some_same}
 
@@ -43,6 +45,24 @@ kinds Method Method e = refl
 kinds Field Method e = cc
 kinds Method Field e = cc
 
+pub parts : (a b : Overriding) → same_overriding a b ≡ true → a ≡ b
+parts Apart Apart e = refl
+parts Open Open e = refl
+parts FinalInPackage FinalInPackage e = refl
+parts Final Final e = refl
+parts Apart Open e = cc
+parts Apart FinalInPackage e = cc
+parts Apart Final e = cc
+parts Open Apart e = cc
+parts Open FinalInPackage e = cc
+parts Open Final e = cc
+parts FinalInPackage Apart e = cc
+parts FinalInPackage Open e = cc
+parts FinalInPackage Final e = cc
+parts Final Apart e = cc
+parts Final Open e = cc
+parts Final FinalInPackage e = cc
+
 texts : (a b : List ℕ) → bytes_eq a b ≡ true → a ≡ b
 texts a b e = (bytes_eq-Decides a b).0 e
 
@@ -52,10 +72,15 @@ names (Some a) (Some b) e = ap (λ (z : List ℕ). Some z) (texts a b e)
 names None (Some b) e = cc
 names (Some a) None e = cc
 
-flags_of : (a b : MemberFact) → same_flags a b ≡ true → (a.kind ≡ b.kind) × (a.is_static ≡ b.is_static) × (a.is_protected ≡ b.is_protected)
+flags_of : (a b : MemberFact) → same_flags a b ≡ true → (a.kind ≡ b.kind) × (a.is_static ≡ b.is_static) × (a.is_protected ≡ b.is_protected) × (a.overriding ≡ b.overriding)
 flags_of a b e =
     let rest = right_of (same_kind a.kind b.kind) _ e in
-    (kinds a.kind b.kind (left_of (same_kind a.kind b.kind) _ e), flags a.is_static b.is_static (left_of (same_flag a.is_static b.is_static) _ rest), flags a.is_protected b.is_protected (right_of (same_flag a.is_static b.is_static) _ rest))
+    let last = right_of (same_flag a.is_static b.is_static) _ rest in (
+      kinds a.kind b.kind (left_of (same_kind a.kind b.kind) _ e),
+      flags a.is_static b.is_static (left_of (same_flag a.is_static b.is_static) _ rest),
+      flags a.is_protected b.is_protected (left_of (same_flag a.is_protected b.is_protected) _ last),
+      parts a.overriding b.overriding (right_of (same_flag a.is_protected b.is_protected) _ last),
+    )
 
 members : (a b : MemberFact) → same_member a b ≡ true → a ≡ b
 members a b e =
@@ -63,7 +88,7 @@ members a b e =
     let rest = right_of (same_flags a b) _ e in
     let n = texts a.name b.name (left_of (bytes_eq a.name b.name) _ rest) in
     let d = texts a.descriptor b.descriptor (right_of (bytes_eq a.name b.name) _ rest) in
-    λ i. record { name = n i; descriptor = d i; kind = f.0 i; is_static = f.1 i; is_protected = f.2 i }
+    λ i. record { name = n i; descriptor = d i; kind = f.0 i; is_static = f.1 i; is_protected = f.2 i; overriding = f.3 i }
 
 all_members : (a b : List MemberFact) → same_members a b ≡ true → a ≡ b
 all_members [] [] e = refl
@@ -96,6 +121,12 @@ kind_same : (a : Kind) → same_kind a a ≡ true
 kind_same Field = refl
 kind_same Method = refl
 
+pub part_same : (a : Overriding) → same_overriding a a ≡ true
+part_same Apart = refl
+part_same Open = refl
+part_same FinalInPackage = refl
+part_same Final = refl
+
 text_same : (a : List ℕ) → bytes_eq a a ≡ true
 text_same a = (bytes_eq-Decides a a).1 refl
 
@@ -104,7 +135,7 @@ name_same None = refl
 name_same (Some a) = text_same a
 
 member_same : (a : MemberFact) → same_member a a ≡ true
-member_same a = rw (text_same a.name, text_same a.descriptor, kind_same a.kind, flag_same a.is_static, flag_same a.is_protected) refl
+member_same a = rw (text_same a.name, text_same a.descriptor, kind_same a.kind, flag_same a.is_static, flag_same a.is_protected, part_same a.overriding) refl
 
 members_same : (a : List MemberFact) → same_members a a ≡ true
 members_same [] = refl

@@ -1,5 +1,5 @@
 -- Members as they are summarised: with one text more, and with one member more.
-use Rattle.std.proofs.Common.{◌≡◌, ◌∙◌, ◌+◌, ◌<◌, ℕ, List, [], ◌∷◌, ◌++◌, append_assoc, get_or, length, map, slice_get, take, Some, refl, ap, sym, subst}
+use Rattle.std.proofs.Common.{◌≡◌, ◌∙◌, ◌+◌, ◌<◌, ℕ, Bool, List, [], ◌∷◌, ◌++◌, append_assoc, get_or, length, map, slice_get, take, Some, refl, ap, sym, subst}
 use Rattle.std.specs.Borrow.{Bor}
 use Rattle.std.proofs.lemmas.List.{map-append}
 use Rattle.classfile.specs.Values.{Member}
@@ -26,6 +26,7 @@ stay old new kept (m ∷ ms) (f ∷ fs) a = (
     kind = a.0.kind;
     is_static = a.0.is_static;
     is_protected = a.0.is_protected;
+    overriding = a.0.overriding;
   },
   stay old new kept ms fs a.1,
 )
@@ -44,11 +45,11 @@ facts_are texts (m ∷ ms) (f ∷ fs) a =
     let n = among_of texts m.places.name f.name a.0.name in
     let d = among_of texts m.places.descriptor f.descriptor a.0.descriptor in
     let rest = facts_are texts ms fs a.1 in
-    λ i. record { name = n i; descriptor = d i; kind = a.0.kind i; is_static = a.0.is_static i; is_protected = a.0.is_protected i } ∷ rest i
+    λ i. record { name = n i; descriptor = d i; kind = a.0.kind i; is_static = a.0.is_static i; is_protected = a.0.is_protected i; overriding = a.0.overriding i } ∷ rest i
 
 -- the facts of one member more
-pub next_facts : {A : Type 0} (view : A → Member) (pool : List Entry) (kind : Kind) (facts : List MemberFact) (ms : List A) (i : ℕ) (d : A) → i < length ms
-    → (facts ++ map (member_summary pool kind) (map view (take i ms))) ++ member_summary pool kind (view (get_or ms i d)) ∷ [] ≡ facts ++ map (member_summary pool kind) (map view (take (i + 1) ms))
-next_facts view pool kind facts ms i d lt =
-    append_assoc facts (map (member_summary pool kind) (map view (take i ms))) (member_summary pool kind (view (get_or ms i d)) ∷ [])
-    ∙ ap (λ xs. facts ++ xs) (sym (map-append (member_summary pool kind) (map view (take i ms)) (view (get_or ms i d) ∷ [])) ∙ ap (map (member_summary pool kind)) (sym (map_more view ms i d lt)))
+pub next_facts : {A : Type 0} (view : A → Member) (release : Bool) (pool : List Entry) (kind : Kind) (facts : List MemberFact) (ms : List A) (i : ℕ) (d : A) → i < length ms
+    → (facts ++ map (member_summary release pool kind) (map view (take i ms))) ++ member_summary release pool kind (view (get_or ms i d)) ∷ [] ≡ facts ++ map (member_summary release pool kind) (map view (take (i + 1) ms))
+next_facts view release pool kind facts ms i d lt =
+    append_assoc facts (map (member_summary release pool kind) (map view (take i ms))) (member_summary release pool kind (view (get_or ms i d)) ∷ [])
+    ∙ ap (λ xs. facts ++ xs) (sym (map-append (member_summary release pool kind) (map view (take i ms)) (view (get_or ms i d) ∷ [])) ∙ ap (map (member_summary release pool kind)) (sym (map_more view ms i d lt)))

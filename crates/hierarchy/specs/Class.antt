@@ -3,6 +3,7 @@
 use Rattle.std.specs.Prelude.{◌≡◌, ℕ, Bool, List, Option, None, IsSome, find, option_map}
 use Rattle.std.specs.Str.{bytes_eq}
 use Rattle.hierarchy.specs.declared.summary.Kind.{Kind}
+use Rattle.hierarchy.specs.declared.summary.Overriding.{Overriding}
 use Rattle.hierarchy.specs.World.{Entry, World, superclass_in, IsSubclassIn}
 
 -- a field or method of a class
@@ -12,6 +13,7 @@ pub record MemberFact : Type 0 where
   pub kind : Kind
   pub is_static : Bool
   pub is_protected : Bool
+  pub overriding : Overriding
 
 -- the summary of a class
 pub record ClassFact : Type 0 where

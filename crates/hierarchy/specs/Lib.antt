@@ -8,6 +8,7 @@ pub mod Rules
 pub mod Faults
 pub mod Extends
 pub mod Nearest
+pub mod Overrides
 pub mod Ancestors
 pub mod Rows
 pub mod Places

@@ -23,6 +23,7 @@ member_of texts m = record {
   kind = m.places.kind;
   is_static = m.is_static;
   is_protected = m.is_protected;
+  overriding = m.overriding;
 }
 
 abbrev pub fact_of : Summary → ClassFact

@@ -1,6 +1,7 @@
 //! Classes with all that stand above them, each after its superclass.
-ghost use Rattle.std.specs.Prelude.{◌≡◌, ◌<◌, List, [], length, IfOk, OnOk};
-ghost use Rattle.hierarchy.specs.private.Ancestry.{Adds, EndsBelow, IsAncestry, IsOwn, facts_at, place_among};
+ghost use Rattle.std.specs.Prelude.{◌≡◌, ◌<◌, ℕ, List, [], Some, length, slice_get, IfOk, OnOk};
+ghost use Rattle.hierarchy.specs.private.Ancestry.{Adds, EndsBelow, Has, HavePlace, IsAncestry, IsOwn, KeepClasses, StandsAbove, facts_at, place_among};
+ghost use Rattle.hierarchy.specs.private.Above.{class_above, names_of};
 ghost use Rattle.hierarchy.specs.Class.{ClassFact};
 ghost use Rattle.hierarchy.specs.Rules.{IsHierarchy};
 ghost use Rattle.hierarchy.specs.Summary.{fact_of};
@@ -42,6 +43,18 @@ impl<'k> Ancestry<'k> {
         }
     }
 
+    /// The place of the class directly above a class that has a place.
+    pub fn above<C: Classes>(&self, classes: &C, class: &Summary<'_>) -> Option<usize>
+        requires { IsAncestry (C.content classes.now) self.now }
+        ensures { (n : ℕ) → slice_get (facts_at self.now.classes.items) n ≡ Some (fact_of class.now)
+            → StandsAbove self.now n (class_above (C.content classes.now) (fact_of class.now)) result }
+    {
+        match class_above(classes, class) {
+            None => None,
+            Some(above) => self.place(classes, above.name),
+        }
+    }
+
     /// The classes from one upward, up to the first that has a place.
     fn way<C: Classes>(
         &self,
@@ -52,7 +65,8 @@ impl<'k> Ancestry<'k> {
         requires formed { IsHierarchy (C.content classes.now) }
         requires own { IsOwn (C.content classes.now) (fact_of start.now) }
         requires good { IsAncestry (C.content classes.now) self.now }
-        ensures { IfOk result (λ way. EndsBelow (C.content classes.now) self.now (facts_at way.items)) }
+        ensures { IfOk result (λ way. EndsBelow (C.content classes.now) self.now (fact_of start.now)
+            (facts_at way.items)) }
     {
         let mut way = Vec::new(alloc);
         let mut at = Some(start);
@@ -93,7 +107,9 @@ impl<'k> Ancestry<'k> {
         requires formed { IsHierarchy (C.content classes.now) }
         requires own { IsOwn (C.content classes.now) (fact_of class.now) }
         requires good { IsAncestry (C.content classes.now) self.old }
-        ensures { OnOk result (IsAncestry (C.content classes.now) self.new) }
+        ensures good { OnOk result (IsAncestry (C.content classes.now) self.new) }
+        ensures kept { OnOk result (KeepClasses self.old self.new) }
+        ensures here { OnOk result (Has self.new (fact_of class.now)) }
     {
         let mut way = self.way(alloc, classes, class)?;
         while let Some(class) = way.pop() {
@@ -110,6 +126,7 @@ pub fn ancestry_of<'k, C: Classes>(
     names: &[&[u8]],
 ) -> Result<Ancestry<'k>, AllocError>
     ensures good { IfOk result (IsAncestry (C.content classes.now)) }
+    ensures placed { IfOk result (λ a. HavePlace (C.content classes.now) a (names_of names.now)) }
     ensures formed { IfOk result (λ a. 0 < length a.classes.items → IsHierarchy (C.content classes.now)) }
 {
     let mut ancestry = Ancestry::new(alloc);

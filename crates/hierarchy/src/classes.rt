@@ -3,6 +3,7 @@ ghost use Rattle.std.specs.Prelude.{◌≡◌, ℕ, List, Some, map, option_map,
 ghost use Rattle.std.specs.Option.{option_copied};
 ghost use Rattle.hierarchy.specs.Class.{ClassFact, class_of, interface_of};
 ghost use Rattle.hierarchy.specs.Nearest.{is_guarded};
+ghost use Rattle.hierarchy.specs.Overrides.{overriding_method};
 ghost use Rattle.hierarchy.specs.Places.{place_in};
 ghost use Rattle.hierarchy.specs.Summary.{fact_of, references_of};
 ghost use Rattle.hierarchy.specs.Rules.{IsHierarchy};
@@ -13,7 +14,7 @@ use crate::member_references::References;
 use crate::summary::Summary;
 use std::alloc::{AllocError, Global};
 
-/// A set of classes without faults. Its content is a list of summaries, one for each name. No question but the last
+/// A set of classes without faults. Its content is a list of summaries, one for each name. No question but the last two
 /// takes memory.
 pub trait Classes {
     /// The summaries.
@@ -49,7 +50,7 @@ pub trait Classes {
             → SubclassAnswer (content self.now) x y (yes_if result) };
 
     /// The answers of [`guarded`](crate::guarded), where what the class of this name inherits was found in advance
-    /// ([`Prepared`](crate::Prepared)). This question alone takes memory, for its answers.
+    /// ([`Prepared`](crate::Prepared)).
     fn guarded_in_advance(
         &self,
         alloc: Global,
@@ -58,4 +59,14 @@ pub trait Classes {
     ) -> Result<Option<Vec<bool>>, AllocError>
         ensures { IfOk result (λ found. IfSome found
             (λ answers. answers.items ≡ map (is_guarded (content self.now) class.now) (references_of references.now))) };
+
+    /// The answer of [`overriding_method`](crate::overriding_method), where what the superclass of the class has and
+    /// inherits was found in advance ([`Prepared`](crate::Prepared)).
+    fn overriding_in_advance(
+        &self,
+        alloc: Global,
+        class: &Summary<'_>,
+    ) -> Result<Option<Option<usize>>, AllocError>
+        ensures { IfOk result (λ found. IfSome found
+            (λ answer. answer ≡ overriding_method (content self.now) (fact_of class.now))) };
 }

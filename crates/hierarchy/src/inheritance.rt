@@ -1,29 +1,34 @@
 //! The inheritance of classes, found for many at once.
-ghost use Rattle.std.specs.Prelude.{◌≡◌, ◌<◌, ◌≤◌, ◌↔◌, ◌+◌, ℕ, List, [], length, map, slice_get, Some, IfOk, IfSome, OnOk, IsTrue};
+ghost use Rattle.std.specs.Prelude.{◌≡◌, ◌<◌, ◌↔◌, ◌+◌, ℕ, List, [], length, map, slice_get, Some, IfOk, IfSome, OnOk, IsTrue};
 ghost use Rattle.std.specs.Borrow.{Bor};
-ghost use Rattle.hierarchy.specs.private.Above.{class_above};
-ghost use Rattle.hierarchy.specs.private.Ancestry.{IsAncestry, facts_at, place_among};
+ghost use Rattle.hierarchy.specs.private.Above.{class_above, names_of};
+ghost use Rattle.hierarchy.specs.private.Ancestry.{HavePlace, IsAncestry, facts_at, place_among};
 ghost use Rattle.hierarchy.specs.Class.{ClassFact, IsSubclass};
-ghost use Rattle.hierarchy.specs.private.Inheritance.{AreValues, HaveNumbers, LooksAt, has_length, InheritSoFar, InheritsAny, IsInheritance, IsProtectedAt, KeepMembers, NumberAll};
+ghost use Rattle.hierarchy.specs.private.Inheritance.{AreValues, LooksAt, has_length, InheritSoFar, InheritsAny, IsInheritance, IsProtectedAt};
 ghost use Rattle.hierarchy.specs.private.MemberNumbers.{AreLookups, AreMemberNumbers};
 ghost use Rattle.hierarchy.specs.Nearest.{is_guarded};
+ghost use Rattle.hierarchy.specs.Overrides.{overriding_method};
 ghost use Rattle.hierarchy.specs.declared.inheritance.Inherited.{Inherited as InheritedFact};
+ghost use Rattle.hierarchy.specs.declared.numbered_members.Numbered.TheVariants.{Protected};
 ghost use Rattle.hierarchy.specs.declared.member_numbers.MemberNumbers.{MemberNumbers};
 ghost use Rattle.hierarchy.specs.Rules.{IsHierarchy};
-ghost use Rattle.hierarchy.specs.Summary.{asked, fact_of, references_of};
+ghost use Rattle.hierarchy.specs.private.Sketches.{HaveSketches};
+ghost use Rattle.hierarchy.specs.Summary.{asked, fact_of, references_of, text_among};
 ghost use Rattle.hierarchy.specs.private.TextNumbers.{OfEach};
 ghost use Rattle.hierarchy.specs.private.Versions.{Most};
 
 use crate::ancestry::{Ancestry, ancestry_of};
 use crate::classes::Classes;
+use crate::final_methods::FinalMethods;
 use crate::member_numbers::{MemberLookups, MemberNumbers};
 use crate::member_references::References;
+use crate::numbered_members::{Numbered, numbers_of};
 use crate::package::package_of;
+use crate::sketches::{SKETCHES, has_sketch, sketches_with};
 use crate::summary::{MemberPlaces, Summary};
-use crate::superclasses::class_above;
-use crate::text_numbers::{Numbering, number_of};
+use crate::text_numbers::number_of;
 use crate::texts::{place_among, text_among};
-use crate::versions::{Put, Versions};
+use crate::versions::{Put, Versions, greater};
 use std::alloc::{AllocError, Global};
 use std::collections::BTreeMap;
 
@@ -43,9 +48,13 @@ pub struct Inherited {
     // At each number below 64, whether a class that is this one or stands above it has a name of so many bytes, modulo
     // 64.
     lengths: [bool; LENGTHS],
+    // At each number below 256, whether a protected member of this class or of one above it has a name with this
+    // sketch.
+    sketches: [bool; SKETCHES],
 }
 
-/// The inheritance of classes: which classes stand above each, and the nearest declarations of protected members.
+/// The inheritance of classes: which classes stand above each, the nearest declarations of protected members, and the
+/// final methods.
 ///
 /// The time and the memory are those of the classes and their members, times a logarithm, however long the chains of
 /// superclasses are.
@@ -54,6 +63,7 @@ pub struct Inheritance<'k> {
     ancestry: Ancestry<'k>,
     numbers: MemberNumbers<'k>,
     table: InheritanceTable<'k>,
+    finals: FinalMethods<'k>,
 }
 
 /// The entries of the first classes of an ancestry, and the versions that they name.
@@ -64,57 +74,22 @@ pub struct InheritanceTable<'k> {
     of: Vec<Inherited>,
 }
 
-/// Gives numbers to the protected members of a class.
-fn number_members<'k>(
-    alloc: Global,
-    numbers: &mut MemberNumbers<'k>,
-    class: &Summary<'k>,
-) -> Result<(), AllocError>
-    requires { AreMemberNumbers numbers.old }
-    ensures good { OnOk result (AreMemberNumbers numbers.new) }
-    ensures numbered { OnOk result (HaveNumbers numbers.new (fact_of class.now).members) }
-    ensures kept { OnOk result (KeepMembers numbers.old numbers.new) }
-{
-    let mut numbering = Numbering::new(alloc, &class.texts)?;
-    for member in &class.members {
-        if member.is_protected {
-            numbers.add(&mut numbering, member.places)?;
-        }
-    }
-    Ok(())
-}
-
-/// The numbers of the protected members of classes.
-fn numbers_of<'k>(alloc: Global, ancestry: &Ancestry<'k>) -> Result<MemberNumbers<'k>, AllocError>
-    ensures good { IfOk result AreMemberNumbers }
-    ensures numbered { IfOk result (λ numbers. NumberAll numbers (facts_at ancestry.now.classes.items)) }
-{
-    let mut numbers = MemberNumbers::new(alloc);
-    for place in 0..ancestry.classes.len() {
-        number_members(alloc, &mut numbers, ancestry.classes[place])?;
-    }
-    Ok(numbers)
-}
-
-fn greater(one: usize, other: usize) -> usize
-    ensures first { one ≤ result }
-    ensures second { other ≤ result }
-{
-    if one < other { other } else { one }
-}
-
 /// The values of the members of a class that have numbers, with the greatest of these. From the last member to the first,
-/// so that the first of several counts.
+/// so that the first of several counts. The sketches are those of the names of protected members of the class and of
+/// all above it: a member whose name has none of them is passed over, since its value above is 0 and stays 0.
 fn values_of(
     alloc: Global,
     lookups: &mut MemberLookups<'_, '_, '_, '_>,
     class: &Summary<'_>,
+    sketches: &[bool; SKETCHES],
     own: usize,
 ) -> Result<(Vec<Put>, usize), AllocError>
     requires lookups { (numbers : MemberNumbers) × AreLookups numbers class.now.texts.items lookups.old }
+    requires noted { HaveSketches Protected sketches.now (fact_of class.now).members }
+    requires wide { length sketches.now ≡ 256 }
     ensures values { (numbers : MemberNumbers) → AreMemberNumbers numbers
         → AreLookups numbers class.now.texts.items lookups.old
-        → IfOk result (λ x. AreValues numbers (fact_of class.now).members own x.0.items) }
+        → IfOk result (λ x. AreValues numbers sketches.now (fact_of class.now).members own x.0.items) }
     ensures most { IfOk result (λ x. Most x.1 x.0.items) }
 {
     let mut puts = Vec::new(alloc);
@@ -123,6 +98,10 @@ fn values_of(
     while left > 0 {
         left -= 1;
         let member = &class.members[left];
+        let name = text_among(&class.texts, member.places.name);
+        if !has_sketch(sketches, name) {
+            continue;
+        }
         if let Some(index) = lookups.get(member.places) {
             let value = if member.is_protected { own } else { 0 };
             puts.push(Put { index, value })?;
@@ -168,11 +147,9 @@ impl<'k> InheritanceTable<'k> {
             members: 0,
             package_number: 0,
             lengths: [false; LENGTHS],
+            sketches: [false; SKETCHES],
         };
-        let Some(above) = class_above(classes, class) else {
-            return nothing;
-        };
-        match ancestry.place(classes, above.name) {
+        match ancestry.above(classes, class) {
             None => nothing,
             Some(place) => self.of[place],
         }
@@ -200,8 +177,9 @@ impl<'k> InheritanceTable<'k> {
         let above = self.above(classes, ancestry, class);
         let ancestors = self.versions.put(above.ancestors, place, 1)?;
         let alloc = *self.of.allocator();
+        let sketches = sketches_with(Numbered::Protected, above.sketches, class);
         let mut lookups = MemberLookups::new(alloc, numbers, &class.texts)?;
-        let (puts, most) = values_of(alloc, &mut lookups, class, place + 1)?;
+        let (puts, most) = values_of(alloc, &mut lookups, class, &sketches, place + 1)?;
         let members = self.versions.put_all(above.members, &puts, most)?;
         let package_number = number_of(&mut self.packages, package_of(class.name))?;
         let mut lengths = above.lengths;
@@ -211,6 +189,7 @@ impl<'k> InheritanceTable<'k> {
             members,
             package_number,
             lengths,
+            sketches,
         })?;
         Ok(())
     }
@@ -245,15 +224,18 @@ impl<'k> Inheritance<'k> {
         classes: &'k C,
         names: &[&[u8]],
     ) -> Result<Inheritance<'k>, AllocError>
-        ensures { IfOk result (IsInheritance (C.content classes.now)) }
+        ensures good { IfOk result (IsInheritance (C.content classes.now)) }
+        ensures placed { IfOk result (λ i. HavePlace (C.content classes.now) i.ancestry (names_of names.now)) }
     {
         let ancestry = ancestry_of(alloc, classes, names)?;
-        let numbers = numbers_of(alloc, &ancestry)?;
+        let numbers = numbers_of(alloc, Numbered::Protected, &ancestry)?;
         let table = inherited_by(alloc, classes, &ancestry, &numbers)?;
+        let finals = FinalMethods::new(alloc, classes, &ancestry)?;
         Ok(Inheritance {
             ancestry,
             numbers,
             table,
+            finals,
         })
     }
 
@@ -280,10 +262,12 @@ impl<'k> Inheritance<'k> {
     }
 
     /// The place of the class with the nearest declaration from the class at a place upward, where that is protected.
+    /// Most names have no sketch there, so that their members need no look-up.
     fn protected_in(
         &self,
         class: usize,
         lookups: &mut MemberLookups<'_, '_, '_, '_>,
+        name: &[u8],
         member: MemberPlaces,
     ) -> Option<usize>
         requires good { (classes : List ClassFact) × IsInheritance classes self.now }
@@ -291,17 +275,18 @@ impl<'k> Inheritance<'k> {
         requires lookups { (texts : List (Bor (List ℕ))) × AreLookups self.now.numbers texts lookups.old }
         ensures lookups { (texts : List (Bor (List ℕ))) → AreLookups self.now.numbers texts lookups.old
             → AreLookups self.now.numbers texts lookups.new }
-        ensures place { (classes : List ClassFact) (c : ClassFact) (texts : List (Bor (List ℕ))) (name : List ℕ)
+        ensures place { (classes : List ClassFact) (c : ClassFact) (texts : List (Bor (List ℕ))) (class_name : List ℕ)
             → IsInheritance classes self.now
             → slice_get (facts_at self.now.ancestry.classes.items) class ≡ Some c
-            → AreLookups self.now.numbers texts lookups.old
-            → IsProtectedAt classes (facts_at self.now.ancestry.classes.items) (asked texts name member) c.name result }
+            → AreLookups self.now.numbers texts lookups.old → name.now ≡ text_among texts member.name
+            → IsProtectedAt classes (facts_at self.now.ancestry.classes.items) (asked texts class_name member) c.name result }
     {
+        let inherited = &self.table.of[class];
+        if !has_sketch(&inherited.sketches, name) {
+            return None;
+        }
         let number = lookups.get(member)?;
-        let place = self
-            .table
-            .versions
-            .get(self.table.of[class].members, number);
+        let place = self.table.versions.get(inherited.members, number);
         if place == 0 { None } else { Some(place - 1) }
     }
 
@@ -364,24 +349,27 @@ impl<'k> Inheritance<'k> {
         class: usize,
         start: Option<usize>,
         lookups: &mut MemberLookups<'_, '_, '_, '_>,
+        name: &[u8],
         member: MemberPlaces,
     ) -> bool
         requires good { (classes : List ClassFact) × IsInheritance classes self.now }
         requires there { class < length self.now.table.of.items }
         requires start { IfSome start (λ s. s < length self.now.table.of.items) }
-        requires lookups { (texts : List (Bor (List ℕ))) × AreLookups self.now.numbers texts lookups.old }
+        requires lookups { (texts : List (Bor (List ℕ))) × AreLookups self.now.numbers texts lookups.old
+            × (name.now ≡ text_among texts member.name) }
         ensures lookups { (texts : List (Bor (List ℕ))) → AreLookups self.now.numbers texts lookups.old
             → AreLookups self.now.numbers texts lookups.new }
-        ensures guarded { (classes : List ClassFact) (c : ClassFact) (texts : List (Bor (List ℕ))) (name : List ℕ)
+        ensures guarded { (classes : List ClassFact) (c : ClassFact) (texts : List (Bor (List ℕ))) (class_name : List ℕ)
             → IsInheritance classes self.now
             → slice_get (facts_at self.now.ancestry.classes.items) class ≡ Some c
-            → AreLookups self.now.numbers texts lookups.old → LooksAt classes self.now class c name start
-            → result ≡ is_guarded classes c.name (asked texts name member) }
+            → AreLookups self.now.numbers texts lookups.old → name.now ≡ text_among texts member.name
+            → LooksAt classes self.now class c class_name start
+            → result ≡ is_guarded classes c.name (asked texts class_name member) }
     {
         let Some(start) = start else {
             return false;
         };
-        match self.protected_in(start, lookups, member) {
+        match self.protected_in(start, lookups, name, member) {
             None => false,
             Some(place) => self.table.of[place].package_number
                 != self.table.of[class].package_number,
@@ -407,8 +395,28 @@ impl<'k> Inheritance<'k> {
         let mut answers = Vec::with_capacity(alloc, references.members.len())?;
         for reference in &references.members {
             let start = starts[place_among(&references.classes, reference.class)];
-            answers.push(self.is_guarded(class, start, &mut lookups, reference.places))?;
+            let name = text_among(&references.texts, reference.places.name);
+            let answer = self.is_guarded(class, start, &mut lookups, name, reference.places);
+            answers.push(answer)?;
         }
         Ok(answers)
+    }
+
+    /// The first method of a class that overrides a final one, where its superclass has a place in the ancestry. Methods
+    /// count from 0.
+    pub fn overriding<C: Classes>(
+        &self,
+        alloc: Global,
+        classes: &C,
+        class: &Summary<'_>,
+    ) -> Result<Option<Option<usize>>, AllocError>
+        requires good { IsInheritance (C.content classes.now) self.now }
+        ensures answer { IfOk result (λ found. IfSome found
+            (λ answer. answer ≡ overriding_method (C.content classes.now) (fact_of class.now))) }
+        ensures none { IfOk result (λ found. found ≡ None → (name : List ℕ) → (fact_of class.now).superclass ≡ Some name
+            → place_among (C.content classes.now) self.now.ancestry.places name ≡ None) }
+    {
+        self.finals
+            .overriding(alloc, classes, &self.ancestry, class)
     }
 }

@@ -1,9 +1,10 @@
-//! Laws of faults, of chains of superclasses, of worlds, of summaries, of declarations and of places.
+//! Laws of faults, of chains of superclasses, of worlds, of summaries, of declarations, of overriding and of places.
 ghost use Rattle.hierarchy.specs.Answer.{HasOneSubclassAnswer};
 ghost use Rattle.hierarchy.specs.ClassSummary.{SummaryHasTexts};
 ghost use Rattle.hierarchy.specs.Faults.{FaultsBreakRules, OneFault, RulesMakeHierarchies};
 ghost use Rattle.hierarchy.specs.Extends.{KeepsSubclasses, ExtendsItself, ChainsAreSteps};
 ghost use Rattle.hierarchy.specs.Nearest.{NearestIsComputed};
+ghost use Rattle.hierarchy.specs.Overrides.{OverridesAreComputed};
 ghost use Rattle.hierarchy.specs.Places.{PlacesAreNames};
 ghost use Rattle.hierarchy.specs.Rows.{HasOneDepth, IsBelowByDepth};
 
@@ -69,4 +70,10 @@ pub fn places_are_names()
 /// In a hierarchy the nearest declaration of a member from a class upward is the one that its word computes.
 pub fn nearest_is_computed()
     ensures { NearestIsComputed }
+{}
+
+/// In a hierarchy a method overrides a final one exactly where a chain of superclasses leads to a class that declares
+/// one that it may not override.
+pub fn overrides_are_computed()
+    ensures { OverridesAreComputed }
 {}

@@ -29,7 +29,12 @@
 //! - `versions`: arrays of numbers whose versions share what is equal.
 //! - `member_key`: members by numbers of their texts.
 //! - `member_numbers`: numbers of members, by kind, name and descriptor.
+//! - `numbered_members`: which members get numbers.
+//! - `sketches`: sketches of names, by which most names need no look-up.
 //! - `inheritance`: what classes inherit, found for many at once.
+//! - `final_methods`: the final methods that classes have and inherit, found for many at once.
+//! - `overriding_parts`: the parts that methods take in overriding.
+//! - `overriding`: the first method of a class that overrides a final one.
 //! - `prepared_classes`: classes with what some of them inherit.
 //! - `package`: packages of classes.
 //! - `laws`: what holds of faults, chains and worlds.
@@ -43,6 +48,7 @@ mod class_summary;
 mod classes;
 mod cycles;
 mod fault;
+mod final_methods;
 mod flags;
 mod index;
 mod inheritance;
@@ -51,6 +57,9 @@ mod member_key;
 mod member_numbers;
 mod member_references;
 mod name_key;
+mod numbered_members;
+mod overriding;
+mod overriding_parts;
 mod package;
 mod places;
 mod prepared_classes;
@@ -58,6 +67,7 @@ mod row_table;
 mod rows;
 mod rules;
 mod same_summaries;
+mod sketches;
 mod skips;
 mod spot;
 mod starts;
@@ -74,8 +84,9 @@ pub use classes::Classes;
 pub use cycles::twice_as_far;
 pub use fault::HierarchyFault;
 pub use member_references::{MemberRef, References, guarded};
+pub use overriding::overriding_method;
 pub use prepared_classes::Prepared;
 pub use rows::Rows;
 pub use same_summaries::same_summary;
-pub use summary::{Kind, MemberPlaces, MemberSummary, Summary};
+pub use summary::{Kind, MemberPlaces, MemberSummary, Overriding, Summary};
 pub use texts::Texts;

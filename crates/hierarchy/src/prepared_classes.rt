@@ -8,7 +8,8 @@ use std::alloc::{AllocError, Global};
 use std::marker::Model;
 
 /// Classes that answer as others do, with what some of them inherit found in advance: [`guarded`](crate::guarded) takes
-/// no walk along a chain of superclasses for these. It finds the class of each reference by [`Classes::place`].
+/// no walk along a chain of superclasses for these, and [`overriding_method`](crate::overriding_method) none for the
+/// classes directly below them. Both find classes by [`Classes::place`].
 #[derive(Drop)]
 pub struct Prepared<'k, C: Classes> {
     classes: &'k C,
@@ -90,5 +91,13 @@ impl<'k, C: Classes> Classes for Prepared<'k, C> {
                 Ok(Some(answers))
             }
         }
+    }
+
+    fn overriding_in_advance(
+        &self,
+        alloc: Global,
+        class: &Summary<'_>,
+    ) -> Result<Option<Option<usize>>, AllocError> {
+        self.inheritance.overriding(alloc, self.classes, class)
     }
 }

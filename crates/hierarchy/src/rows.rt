@@ -208,4 +208,12 @@ impl<'s, 'a, S: BuildHasher> Classes for Rows<'s, 'a, S> {
     ) -> Result<Option<Vec<bool>>, AllocError> {
         Ok(None)
     }
+
+    fn overriding_in_advance(
+        &self,
+        _alloc: Global,
+        _class: &Summary<'_>,
+    ) -> Result<Option<Option<usize>>, AllocError> {
+        Ok(None)
+    }
 }

@@ -5,6 +5,7 @@ ghost use Rattle.std.specs.Str.{bytes_eq};
 ghost use Rattle.hierarchy.specs.Summary.{fact_of, member_of, text_among};
 ghost use Rattle.hierarchy.specs.private.SameSummaries.{AreCompared, Compares, same_flags, same_head, same_kind, same_member, same_members, same_name};
 
+use crate::overriding_parts::same_overriding;
 use crate::summary::{Kind, MemberSummary, Summary};
 use crate::text_numbers::Numbering;
 use std::alloc::{AllocError, Global};
@@ -44,7 +45,7 @@ fn same_kind(one: Kind, other: Kind) -> bool
     }
 }
 
-/// Whether two members are of one kind and have the same flags.
+/// Whether two members are of one kind, have the same flags, and take the same part in overriding.
 fn same_flags(one: &MemberSummary, other: &MemberSummary) -> bool
     ensures { (ones others : List (Bor (List ℕ)))
         → result ≡ same_flags (member_of ones one.now) (member_of others other.now) }
@@ -52,6 +53,7 @@ fn same_flags(one: &MemberSummary, other: &MemberSummary) -> bool
     same_kind(one.places.kind, other.places.kind)
         && one.is_static == other.is_static
         && one.is_protected == other.is_protected
+        && same_overriding(one.overriding, other.overriding)
 }
 
 impl<'t, 'a> Comparison<'t, 'a> {

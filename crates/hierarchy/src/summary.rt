@@ -18,6 +18,19 @@ pub struct MemberPlaces {
     pub descriptor: usize,
 }
 
+/// The part that a member takes in overriding (JVMS 5.4.5).
+#[derive(Clone, Copy, Debug, PartialEq, Eq)]
+pub enum Overriding {
+    /// It takes none: it is a field, or a static or private method, or its class was not read by a release.
+    Apart,
+    /// It may override methods, and may be overridden.
+    Open,
+    /// It may override methods. It is final and neither public nor protected, so no class of its package may override it.
+    FinalInPackage,
+    /// It may override methods. It is final, and public or protected, so no class may override it.
+    Final,
+}
+
 /// A field or method of a class.
 #[derive(Clone, Copy, Debug, PartialEq, Eq)]
 pub struct MemberSummary {
@@ -27,6 +40,8 @@ pub struct MemberSummary {
     pub is_static: bool,
     /// Its flag ACC_PROTECTED.
     pub is_protected: bool,
+    /// The part that it takes in overriding.
+    pub overriding: Overriding,
 }
 
 /// The parts of a class that other classes are verified against. Names are the bytes of internal names (JVMS 4.2.1).

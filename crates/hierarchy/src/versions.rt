@@ -1,6 +1,6 @@
 //! Versions of an array of numbers, which share nodes.
-ghost use Rattle.std.specs.Prelude.{◌≡◌, ℕ, List, [], ◌∷◌, ◌++◌, length, Ok, IfOk, OnOk};
-ghost use Rattle.hierarchy.specs.private.Versions.{AreVersions, IsAdded, IsSplit, IsVersion, Most, Puts, PutsAll, Takes, value_at};
+ghost use Rattle.std.specs.Prelude.{◌≡◌, ◌≤◌, ℕ, List, [], ◌∷◌, ◌++◌, length, Ok, IfOk, OnOk};
+ghost use Rattle.hierarchy.specs.private.Versions.{AreNamed, AreVersions, IsAdded, IsSplit, IsVersion, Most, Puts, PutsAll, PutsNested, Takes, nested_at, value_at};
 
 use std::alloc::{AllocError, Global};
 
@@ -18,6 +18,14 @@ pub struct Node {
 pub struct Put {
     pub index: usize,
     pub value: usize,
+}
+
+/// The greater of two indices.
+pub fn greater(one: usize, other: usize) -> usize
+    ensures first { one ≤ result }
+    ensures second { other ≤ result }
+{
+    if one < other { other } else { one }
 }
 
 /// Values for the node at the top of a version, and for the two nodes below it.
@@ -190,5 +198,34 @@ impl Versions {
         let even = self.put_all(node.even, &split.even, below)?;
         let value = split.value;
         self.at_top(version, Node { value, odd, even })
+    }
+
+    /// The value at an index of the version that another one names at an index.
+    pub fn get_nested(&self, version: usize, outer: usize, index: usize) -> usize
+        requires good { AreVersions self.now }
+        requires there { IsVersion self.now version }
+        requires named { AreNamed self.now version }
+        ensures { result ≡ nested_at self.now version outer index }
+    {
+        self.get(self.get(version, outer), index)
+    }
+
+    /// The version that names at an index one which has these values too, and otherwise what another version names.
+    pub fn put_nested(
+        &mut self,
+        version: usize,
+        outer: usize,
+        puts: &[Put],
+        most: usize,
+    ) -> Result<usize, AllocError>
+        requires good { AreVersions self.old }
+        requires there { IsVersion self.old version }
+        requires named { AreNamed self.old version }
+        requires most { Most most puts.now }
+        ensures { IfOk result (PutsNested self.old self.new version outer puts.now) }
+    {
+        let had = self.get(version, outer);
+        let has = self.put_all(had, puts, most)?;
+        self.put(version, outer, has)
     }
 }

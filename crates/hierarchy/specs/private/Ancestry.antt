@@ -1,5 +1,5 @@
 -- Classes with all that stand above them, each after its superclass. Words of the code's own steps.
-use Rattle.std.specs.Prelude.{◌≡◌, ℕ, ◌<◌, List, [], ◌∷◌, map, slice_get, Option, Some, MatchOption}
+use Rattle.std.specs.Prelude.{◌≡◌, ℕ, ◌<◌, List, [], ◌∷◌, map, slice_get, Option, Some, None, MatchOption}
 use Rattle.std.specs.BTreeMap.{BTreeMap, get}
 use Rattle.std.specs.Borrow.{Bor}
 use Rattle.std.specs.Option.{option_and_then}
@@ -51,15 +51,32 @@ pub record IsAncestry (classes : List ClassFact) (a : Ancestry) : Type 0 where
 abbrev pub Has : Ancestry → ClassFact → Type 0
 Has a c = (p : ℕ) × (slice_get (facts_at a.classes.items) p ≡ Some c)
 
+-- the class, if it is one, stands at this place, before another one
+abbrev pub StandsAbove : Ancestry → ℕ → Option ClassFact → Option ℕ → Type 0
+StandsAbove a n o place = MatchOption o (place ≡ None)
+    (λ c. (p : ℕ) × (place ≡ Some p) × (p < n) × (slice_get (facts_at a.classes.items) p ≡ Some c))
+
 -- so does the class, if it is one
 abbrev pub HasAny : Ancestry → Option ClassFact → Type 0
 HasAny a o = MatchOption o (Unit {0}) (Has a)
 
--- classes in turn, of which the last stands directly below one of these, or below none
-abbrev pub EndsBelow : List ClassFact → Ancestry → List ClassFact → Type 0
-EndsBelow classes a cs = (o : Option ClassFact) × AreInTurn classes cs o × HasAny a o
+-- classes in turn, of which the first is this one, or they are none and it stands among these; the last stands
+-- directly below one of these, or below none
+abbrev pub EndsBelow : List ClassFact → Ancestry → ClassFact → List ClassFact → Type 0
+EndsBelow classes a start cs = (o : Option ClassFact) × AreInTurn classes cs o × HasAny a o
+    × (first_or o cs ≡ Some start)
+
+-- all classes stay
+abbrev pub KeepClasses : Ancestry → Ancestry → Type 0
+KeepClasses old new = (c : ClassFact) → Has old c → Has new c
 
 -- one more class is put after the one that stands directly above it
 abbrev pub Adds : List ClassFact → Ancestry → Ancestry → ClassFact → Type 0
 Adds classes old new c =
-    IsAncestry classes old → HasAny old (class_above classes c) → IsAncestry classes new × Has new c
+    IsAncestry classes old → HasAny old (class_above classes c)
+    → IsAncestry classes new × Has new c × KeepClasses old new
+
+-- the classes of these names have places
+abbrev pub HavePlace : List ClassFact → Ancestry → List (List ℕ) → Type 0
+HavePlace classes a names = (i : ℕ) (name : List ℕ) (c : ClassFact) → slice_get names i ≡ Some name
+    → class_of classes name ≡ Some c → Has a c

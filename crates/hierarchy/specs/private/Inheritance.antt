@@ -1,58 +1,44 @@
 -- The inheritance of classes, as it is kept: which classes stand above each, and which protected members each has, by
 -- versions of arrays. Words of the code's own steps.
-use Rattle.std.specs.Prelude.{◌≡◌, ◌⊎◌, ℕ, ◌<◌, ◌%◌, suc, Bool, true, false, List, length, slice_get, get_or, Option, Some, None, IsSome, find, if◌then◌else◌, MatchOption}
+use Rattle.std.specs.Prelude.{◌≡◌, ℕ, ◌<◌, ◌%◌, suc, Bool, true, false, List, length, slice_get, get_or, Option, Some, None, find, if◌then◌else◌, MatchOption}
 use Rattle.std.specs.BTreeMap.{BTreeMap}
 use Rattle.std.specs.Borrow.{Bor}
 use Rattle.std.specs.Option.{option_map_or}
 use Rattle.hierarchy.specs.declared.inheritance.Inherited.{Inherited}
 use Rattle.hierarchy.specs.declared.inheritance.Inheritance.{Inheritance}
 use Rattle.hierarchy.specs.declared.member_numbers.MemberNumbers.{MemberNumbers}
-use Rattle.hierarchy.specs.declared.summary.Kind.{Kind}
 use Rattle.hierarchy.specs.declared.versions.Versions.{Versions}
 use Rattle.hierarchy.specs.private.Above.{number_of}
 use Rattle.hierarchy.specs.private.Ancestry.{IsAncestry, facts_at, place_among}
 use Rattle.hierarchy.specs.Class.{MemberFact, ClassFact, IsSubclass}
 use Rattle.hierarchy.specs.private.Flags.{AreNumbers}
-use Rattle.hierarchy.specs.private.MemberNumbers.{AreMemberNumbers, member_number}
+use Rattle.hierarchy.specs.private.FinalMethods.{AreFinalMethods}
+use Rattle.hierarchy.specs.private.MemberNumbers.{AreMemberNumbers, asked_number}
+use Rattle.hierarchy.specs.private.NumberedMembers.{NumberAll}
+use Rattle.hierarchy.specs.private.Sketches.{has_sketch}
+use Rattle.hierarchy.specs.declared.numbered_members.Numbered.TheVariants as numbered
 use Rattle.hierarchy.specs.Nearest.{MemberReference, Declaration, IsNearest, is_guarded, is_named, package_of}
 use Rattle.hierarchy.specs.Rules.{IsHierarchy}
 use Rattle.hierarchy.specs.declared.versions.Put.{Put}
-use Rattle.hierarchy.specs.private.Versions.{AreVersions, IsVersion, put_in, value_at}
-
--- the number of a member that a reference asks for
-abbrev pub asked_number : MemberNumbers → MemberReference → Option ℕ
-asked_number numbers r = member_number numbers r.kind r.name r.descriptor
-
--- each of these members has a number where it is protected
-abbrev pub HaveNumbers : MemberNumbers → List MemberFact → Type 0
-HaveNumbers numbers ms = (i : ℕ) (m : MemberFact) → slice_get ms i ≡ Some m → m.is_protected ≡ true
-    → IsSome (member_number numbers m.kind m.name m.descriptor)
-
--- so has each of these classes
-abbrev pub NumberAll : MemberNumbers → List ClassFact → Type 0
-NumberAll numbers all = (p : ℕ) (c : ClassFact) → slice_get all p ≡ Some c → HaveNumbers numbers c.members
-
--- all members that had a number keep it
-abbrev pub KeepMembers : MemberNumbers → MemberNumbers → Type 0
-KeepMembers old new = (k : Kind) (a d : List ℕ) (i : ℕ) → member_number old k a d ≡ Some i
-    → member_number new k a d ≡ Some i
+use Rattle.hierarchy.specs.private.Versions.{AreVersions, IsVersion, KeepVersions, Tells, put_in, value_at}
 
 -- ---- versions
-
--- all versions stay, with all values
-pub record KeepVersions (old new : Versions) : Type 0 where
-  pub good : AreVersions new
-  pub stays : (v : ℕ) → IsVersion old v → IsVersion new v
-  pub same : (v : ℕ) → IsVersion old v → (j : ℕ) → value_at new v j ≡ value_at old v j
 
 -- in place of a value stands the class's own where its member is protected, and 0 where it is not
 abbrev pub declared_value : ℕ → Option MemberFact → ℕ → ℕ
 declared_value own None v = v
 declared_value own (Some m) v = if m.is_protected then own else 0
 
--- these values, put one after the other, are those of these members
-abbrev pub AreValues : MemberNumbers → List MemberFact → ℕ → List Put → Type 0
-AreValues numbers ms own puts = (r : MemberReference) (k v : ℕ) → asked_number numbers r ≡ Some k
+-- a version has 0 for each member whose name has none of these sketches
+abbrev pub IsSketched : MemberNumbers → List Bool → Versions → ℕ → Type 0
+IsSketched numbers sketches versions version = (r : MemberReference) (k : ℕ) → asked_number numbers r ≡ Some k
+    → has_sketch sketches r.name ≡ false → value_at versions version k ≡ 0
+
+-- these values, put one after the other, are those of these members, in place of values that are 0 where the name of a
+-- member has none of these sketches
+abbrev pub AreValues : MemberNumbers → List Bool → List MemberFact → ℕ → List Put → Type 0
+AreValues numbers sketches ms own puts = (r : MemberReference) (k v : ℕ) → asked_number numbers r ≡ Some k
+    → (has_sketch sketches r.name ≡ false → v ≡ 0)
     → put_in puts k v ≡ declared_value own (find (is_named r) ms) v
 
 -- a version has the values of another, with those of these members in their place
@@ -64,10 +50,6 @@ pub record Declares (numbers : MemberNumbers) (old new : Versions) (ms : List Me
       → value_at new version k ≡ declared_value own (find (is_named r) ms) (value_at old above k)
 
 -- ---- values
-
--- a value is 0 where it does not hold, and another where it does
-abbrev pub Tells : Type 0 → ℕ → Type 0
-Tells P v = ((v ≡ 0) × (P → ⊥)) ⊎ ((v ≡ 0 → ⊥) × P)
 
 -- the place of the class with the nearest declaration from a class upward, where that is protected
 pub data IsProtectedAt (classes all : List ClassFact) (r : MemberReference) (name : List ℕ) : Option ℕ → Type 0 where
@@ -92,7 +74,8 @@ has_length lengths name = get_or lengths (length name % 64) false
 module _ (classes all : List ClassFact) (numbers : MemberNumbers) (versions : Versions)
     (packages : BTreeMap (Bor (List ℕ)) ℕ) where
   -- a class has a version that tells of each class whether it is this one or stands above it, one with the values of
-  -- the members, the number of its package, and the lengths of its name and of the names of those above it
+  -- the members, the number of its package, the lengths of its name and of the names of those above it, and sketches of
+  -- the names of protected members
   pub record Inherits (c : ClassFact) (i : Inherited) : Type 0 where
     pub is_chain : IsVersion versions i.ancestors
     pub is_members : IsVersion versions i.members
@@ -104,10 +87,13 @@ module _ (classes all : List ClassFact) (numbers : MemberNumbers) (versions : Ve
     pub lengths : (p : ℕ) (d : ClassFact) → slice_get all p ≡ Some d → IsSubclass classes c.name d.name
         → has_length i.lengths d.name ≡ true
     pub long : length i.lengths ≡ 64
+    pub sketched : IsSketched numbers i.sketches versions i.members
+    pub wide : length i.sketches ≡ 256
 
   -- where there is no class nothing is inherited
   abbrev pub InheritsAny : Option ClassFact → Inherited → Type 0
-  InheritsAny o i = MatchOption o ((i.ancestors ≡ 0) × (i.members ≡ 0) × (length i.lengths ≡ 64)) (λ c. Inherits c i)
+  InheritsAny o i = MatchOption o
+      ((i.ancestors ≡ 0) × (i.members ≡ 0) × (length i.lengths ≡ 64) × (length i.sketches ≡ 256)) (λ c. Inherits c i)
 
   -- the first of these classes, as many as there are answers
   pub record InheritSoFar (of : List Inherited) : Type 0 where
@@ -123,10 +109,11 @@ pub record IsInheritance (classes : List ClassFact) (h : Inheritance) : Type 0 w
   pub formed : 0 < length h.ancestry.classes.items → IsHierarchy classes
   pub ancestry : IsAncestry classes h.ancestry
   pub numbers : AreMemberNumbers h.numbers
-  pub numbered : NumberAll h.numbers (facts_at h.ancestry.classes.items)
+  pub numbered : NumberAll numbered.Protected h.numbers (facts_at h.ancestry.classes.items)
   pub inherit : InheritSoFar classes
       (facts_at h.ancestry.classes.items) h.numbers h.table.versions h.table.packages h.table.of.items
   pub as_many : length h.table.of.items ≡ length h.ancestry.classes.items
+  pub finals : AreFinalMethods classes (facts_at h.ancestry.classes.items) h.finals
 
 -- where the class at a place looks for members of the class of this name: nowhere, if none of these is guarded, or at
 -- the place of that class, which stands above it

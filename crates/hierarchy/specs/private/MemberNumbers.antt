@@ -12,6 +12,7 @@ use Rattle.hierarchy.specs.contracts.member_key.MemberKeyOrd.TheImpl as key_ord
 use Rattle.hierarchy.specs.private.Above.{number_of}
 use Rattle.hierarchy.specs.private.TextNumbers.{AreFound}
 use Rattle.hierarchy.specs.private.Flags.{AreNumbers}
+use Rattle.hierarchy.specs.Nearest.{MemberReference}
 
 -- the order in which members are kept
 abbrev pub key_cmp : MemberKey → MemberKey → Ordering
@@ -34,6 +35,10 @@ key_of texts kind name descriptor = key_with (number_of texts name) (number_of t
 abbrev pub member_number : MemberNumbers → Kind → List ℕ → List ℕ → Option ℕ
 member_number numbers kind name descriptor =
     option_and_then (number_at numbers.members) (key_of numbers.texts kind name descriptor)
+
+-- the number of a member that a reference asks for
+abbrev pub asked_number : MemberNumbers → MemberReference → Option ℕ
+asked_number numbers r = member_number numbers r.kind r.name r.descriptor
 
 -- different members have different numbers
 pub record AreMemberNumbers (numbers : MemberNumbers) : Type 0 where

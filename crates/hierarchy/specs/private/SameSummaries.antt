@@ -3,6 +3,8 @@ use Rattle.std.specs.Borrow.{Bor}
 use Rattle.std.specs.Prelude.{◌≡◌, ℕ, Bool, true, false, ◌&&◌, bytes_eq, List, [], ◌∷◌, Option, Some, None}
 use Rattle.hierarchy.specs.declared.summary.Kind.{Kind}
 use Rattle.hierarchy.specs.declared.summary.Kind.TheVariants.{Field, Method}
+use Rattle.hierarchy.specs.declared.summary.Overriding.{Overriding}
+use Rattle.hierarchy.specs.declared.summary.Overriding.TheVariants.{Apart, Open, FinalInPackage, Final}
 use Rattle.hierarchy.specs.declared.same_summaries.Comparison.{Comparison}
 use Rattle.hierarchy.specs.private.Flags.{AreNumbers}
 use Rattle.hierarchy.specs.private.TextNumbers.{AreGiven}
@@ -21,9 +23,18 @@ same_kind Method Method = true
 same_kind Field Method = false
 same_kind Method Field = false
 
+abbrev pub same_overriding : Overriding → Overriding → Bool
+same_overriding Apart Apart = true
+same_overriding Open Open = true
+same_overriding FinalInPackage FinalInPackage = true
+same_overriding Final Final = true
+same_overriding _ _ = false
+
 abbrev pub same_flags : MemberFact → MemberFact → Bool
 same_flags a b =
-    same_kind a.kind b.kind && (same_flag a.is_static b.is_static && same_flag a.is_protected b.is_protected)
+    same_kind a.kind b.kind
+    && (same_flag a.is_static b.is_static
+    && (same_flag a.is_protected b.is_protected && same_overriding a.overriding b.overriding))
 
 abbrev pub same_member : MemberFact → MemberFact → Bool
 same_member a b = same_flags a b && (bytes_eq a.name b.name && bytes_eq a.descriptor b.descriptor)

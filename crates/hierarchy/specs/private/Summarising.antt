@@ -1,6 +1,5 @@
 -- Members of a class as they are summarised, with their texts. Words of the code's own steps.
-use Rattle.std.specs.Prelude.{◌≡◌, ℕ, List, map, slice_get, Some}
-use Rattle.std.specs.Borrow.{Bor}
+use Rattle.std.specs.Prelude.{◌≡◌, ℕ, List, slice_get, Some}
 use Rattle.std.specs.List.{AllZip}
 use Rattle.pool.specs.Entries.{Entry}
 use Rattle.hierarchy.specs.declared.summary.MemberSummary.{MemberSummary}
@@ -15,6 +14,7 @@ pub record IsSummarised (texts : List (List ℕ)) (m : MemberSummary) (fact : Me
   pub kind : m.places.kind ≡ fact.kind
   pub is_static : m.is_static ≡ fact.is_static
   pub is_protected : m.is_protected ≡ fact.is_protected
+  pub overriding : m.overriding ≡ fact.overriding
 
 abbrev pub AreSummarised : List (List ℕ) → List MemberSummary → List MemberFact → Type 0
 AreSummarised texts ms facts = AllZip (IsSummarised texts) ms facts

@@ -1,6 +1,6 @@
 -- Versions of an array of numbers, which share nodes: the value of a version at an index, and what a new version leaves
 -- as it was. Words of the code's own steps.
-use Rattle.std.specs.Prelude.{◌≡◌, ◌==◌, ℕ, ◌+◌, ◌-◌, ◌*◌, ◌/◌, ◌%◌, ◌<◌, ◌≤◌, zero, suc, List, [], ◌∷◌, length, slice_get, slice_index_or, Some, if◌then◌else◌}
+use Rattle.std.specs.Prelude.{◌≡◌, ◌⊎◌, ◌==◌, ℕ, ◌+◌, ◌-◌, ◌*◌, ◌/◌, ◌%◌, ◌<◌, ◌≤◌, zero, suc, List, [], ◌∷◌, length, slice_get, slice_index_or, Some, if◌then◌else◌}
 use Rattle.hierarchy.specs.declared.versions.Node.{Node}
 use Rattle.hierarchy.specs.declared.versions.Put.{Put}
 use Rattle.hierarchy.specs.declared.versions.Split.{Split}
@@ -53,6 +53,16 @@ pub record IsAdded (old new : Versions) (node : Node) (made : ℕ) : Type 0 wher
   pub stays : (v : ℕ) → IsVersion old v → IsVersion new v
   pub good : AreVersions new
 
+-- all versions stay, with all values
+pub record KeepVersions (old new : Versions) : Type 0 where
+  pub good : AreVersions new
+  pub stays : (v : ℕ) → IsVersion old v → IsVersion new v
+  pub same : (v : ℕ) → IsVersion old v → (j : ℕ) → value_at new v j ≡ value_at old v j
+
+-- a value is 0 where it does not hold, and another where it does
+abbrev pub Tells : Type 0 → ℕ → Type 0
+Tells P v = ((v ≡ 0) × (P → ⊥)) ⊎ ((v ≡ 0 → ⊥) × P)
+
 -- ---- many values at once
 
 -- the value at an index, in place of another, after these were put one after the other
@@ -72,6 +82,23 @@ pub record PutsAll (old new : Versions) (from : ℕ) (puts : List Put) (made : �
   pub kept : (v : ℕ) → IsVersion old v → (j : ℕ) → value_at new v j ≡ value_at old v j
   pub stays : (v : ℕ) → IsVersion old v → IsVersion new v
   pub good : AreVersions new
+
+-- all values of a version name versions
+abbrev pub AreNamed : Versions → ℕ → Type 0
+AreNamed versions version = (q : ℕ) → IsVersion versions (value_at versions version q)
+
+-- the value at an index of the version that another one names at an index
+abbrev pub nested_at : Versions → ℕ → ℕ → ℕ → ℕ
+nested_at versions version outer index = value_at versions (value_at versions version outer) index
+
+-- the version that was made names at an index one that has the values that were put too, and elsewhere what the version
+-- names that it was made from
+pub record PutsNested (old new : Versions) (from outer : ℕ) (puts : List Put) (made : ℕ) : Type 0 where
+  pub version : IsVersion new made
+  pub named : AreNamed new made
+  pub here : (j : ℕ) → nested_at new made outer j ≡ put_in puts j (nested_at old from outer j)
+  pub others : (q : ℕ) → (q ≡ outer → ⊥) → (j : ℕ) → nested_at new made q j ≡ nested_at old from q j
+  pub keeps : KeepVersions old new
 
 -- the values are those for the node at the top, which had a value, and for the nodes below it
 pub record IsSplit (value : ℕ) (puts : List Put) (s : Split) : Type 0 where

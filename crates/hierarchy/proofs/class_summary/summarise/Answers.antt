@@ -14,7 +14,7 @@ loop-member-preserved c =
       good = is.good;
       summaries = λ facts all.
           subst (AreSummarised (kept_texts c.member_summary.new.texts) c.push.new.self.items)
-          (next_facts member_view c.args.pool.now c.args.kind facts c.args.members.now i c.member-item.result c.loop-member-test.true)
-          (one_more c.args.pool.now c.loop-member.texts c.member_summary.new.texts (member_summary c.args.pool.now c.args.kind (member_view (get_or c.args.members.now i c.member-item.result))) c.in_ok-member_summary.field-0 c.loop-member.out.items c.push.new.self.items (facts ++ map (member_summary c.args.pool.now c.args.kind) (map member_view (take i c.args.members.now))) (subst (λ x. Summarises c.args.pool.now c.loop-member.texts c.member_summary.new.texts (member_summary c.args.pool.now c.args.kind (member_view x)) c.in_ok-member_summary.field-0) c.member-item.is is) c.in_ok-push.ensures.items
+          (next_facts member_view c.args.origin.release c.args.pool.now c.args.origin.kind facts c.args.members.now i c.member-item.result c.loop-member-test.true)
+          (one_more c.args.pool.now c.loop-member.texts c.member_summary.new.texts (member_summary c.args.origin.release c.args.pool.now c.args.origin.kind (member_view (get_or c.args.members.now i c.member-item.result))) c.in_ok-member_summary.field-0 c.loop-member.out.items c.push.new.self.items (facts ++ map (member_summary c.args.origin.release c.args.pool.now c.args.origin.kind) (map member_view (take i c.args.members.now))) (subst (λ x. Summarises c.args.pool.now c.loop-member.texts c.member_summary.new.texts (member_summary c.args.origin.release c.args.pool.now c.args.origin.kind (member_view x)) c.in_ok-member_summary.field-0) c.member-item.is is) c.in_ok-push.ensures.items
           (c.loop-member.invariant.summaries facts all));
     }

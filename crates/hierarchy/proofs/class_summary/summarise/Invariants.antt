@@ -10,5 +10,5 @@ abbrev pub invariant-loop-member : goal.invariant-loop-member
 invariant-loop-member l = record {
   good : AreTexts l.pool l.texts;
   summaries : (facts : List MemberFact) → AreSummarised (kept_texts l.initial.texts) l.initial.out.items facts
-      → AreSummarised (kept_texts l.texts) l.out.items (facts ++ member_summaries l.pool l.kind (map member_view (take l.member-index l.members)));
+      → AreSummarised (kept_texts l.texts) l.out.items (facts ++ member_summaries l.origin.release l.pool l.origin.kind (map member_view (take l.member-index l.members)));
 }

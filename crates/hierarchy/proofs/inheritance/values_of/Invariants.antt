@@ -11,7 +11,7 @@ invariant-loop-left l = record {
   found : (numbers : MemberNumbers) → AreLookups numbers l.class.texts.items l.initial.lookups → AreLookups numbers l.class.texts.items l.lookups;
   among : (numbers : MemberNumbers) × AreLookups numbers l.class.texts.items l.lookups;
   values : (numbers : MemberNumbers) → AreMemberNumbers numbers → AreLookups numbers l.class.texts.items l.initial.lookups
-      → AreValues numbers (map (member_of l.class.texts.items) (drop l.left l.class.members.items)) l.own l.puts.items;
+      → AreValues numbers l.sketches (map (member_of l.class.texts.items) (drop l.left l.class.members.items)) l.own l.puts.items;
   most : Most l.most l.puts.items;
   within : l.left ≤ length l.class.members.items;
 }

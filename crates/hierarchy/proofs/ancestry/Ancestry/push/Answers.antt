@@ -16,7 +16,7 @@ returns-then-contains_key g c good above =
     let classes = g.C.Classes.content c.args.classes.now in
     let old = c.args.self.now in
     let some : IsSome (place_among classes old.places c.args.class.now.name.now) = ap (λ o. is_some (option_and_then (get nat_cmp old.places) o)) (sym c.in-Some.ensures) ∙ sym c.contains_key.ensures ∙ c.if-contains_key.true in
-    (good, placed classes old good (fact_of c.args.class.now) c.requires.own some)
+    (good, placed classes old good (fact_of c.args.class.now) c.requires.own some, λ d has. has)
 
 pub returns : goal.returns
 returns g c =

@@ -16,8 +16,8 @@ loop-reference-init g c = record {
   answered = λ a at. c.in_ok-answers.ensures.items;
 }
 
-pub is_guarded-requires-clause-start : goal.is_guarded-requires-clause-start
-is_guarded-requires-clause-start g c =
+pub is_guarded-answer-requires-clause-start : goal.is_guarded-answer-requires-clause-start
+is_guarded-answer-requires-clause-start g c =
     let classes = g.C.Classes.content c.args.classes.now in
     let h = c.args.self.now in
     let rs = c.args.references.now in
@@ -26,6 +26,11 @@ is_guarded-requires-clause-start g c =
     let looks = thing_at (LooksAt classes h c.args.class a.0) c.deref.result.now c.deref-in-loop-reference.result.now rs.classes.items c.in_ok-starts.starts.items r.class c.place_among.result c.index-start.result.now
     (c.in_ok-starts.ensures.each a.0 a.1) c.in_ok-starts.ensures.long c.deref.ensures.value c.deref-in-loop-reference.ensures.value c.place_among.ensures.within c.place_among.ensures.same c.index-start.ensures in
     looks_within classes h c.requires.good c.args.class a.0 (text_among rs.classes.items r.class) c.index-start.result.now looks
+
+pub is_guarded-answer-requires-clause-lookups : goal.is_guarded-answer-requires-clause-lookups
+is_guarded-answer-requires-clause-lookups g c =
+    let r = get_or c.deref-reference-items.result.now c.loop-reference.reference-index _ in
+    (c.args.references.now.texts.items, c.loop-reference.invariant.asks, c.text_among-name.ensures ∙ ap (λ ts. text_among ts r.places.name) c.deref-in-loop-reference-2.ensures.value)
 
 pub loop-reference-preserved : goal.loop-reference-preserved
 loop-reference-preserved g c =
@@ -37,11 +42,12 @@ loop-reference-preserved g c =
     let i = c.loop-reference.reference-index in
     let r = get_or xs i _ in
     record {
-      asks = c.is_guarded.ensures.lookups rs.texts.items c.loop-reference.invariant.asks;
+      asks = c.is_guarded-answer.ensures.lookups rs.texts.items c.loop-reference.invariant.asks;
       answered = λ a at.
           let looks = thing_at (LooksAt classes h c.args.class a) c.deref.result.now c.deref-in-loop-reference.result.now rs.classes.items c.in_ok-starts.starts.items r.class c.place_among.result c.index-start.result.now
           (c.in_ok-starts.ensures.each a at) c.in_ok-starts.ensures.long c.deref.ensures.value c.deref-in-loop-reference.ensures.value c.place_among.ensures.within c.place_among.ensures.same c.index-start.ensures in
-          let told = c.is_guarded.ensures.guarded classes a rs.texts.items (text_among rs.classes.items r.class) c.requires.good at c.loop-reference.invariant.asks looks in
+          let is_name = c.text_among-name.ensures ∙ ap (λ ts. text_among ts r.places.name) c.deref-in-loop-reference-2.ensures.value in
+          let told = c.is_guarded-answer.ensures.guarded classes a rs.texts.items (text_among rs.classes.items r.class) c.requires.good at c.loop-reference.invariant.asks is_name looks in
           let f : MemberRef → Bool = λ r. is_guarded classes a.name (reference_of rs r) in
           let had = subst (λ ms. c.loop-reference.answers.items ≡ map f (take i ms)) (sym same) (c.loop-reference.invariant.answered a at) in
           subst (λ ms. c.push.new.self.items ≡ map f (take (i + 1) ms)) same
