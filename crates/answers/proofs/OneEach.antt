@@ -1,5 +1,5 @@
 -- The answer of `verify-each` is one.
-use Rattle.std.proofs.Common.{◌≡◌, ℕ, ◌+◌, true, false, List, [], ◌∷◌, ◌++◌, Ok, Err, Result, refl, sym, ◌∙◌, ap, subst, inl, inr}
+use Rattle.std.proofs.Common.{◌≡◌, ℕ, ◌+◌, List, [], ◌∷◌, ◌++◌, Ok, Err, Result, refl, sym, ◌∙◌, ap, subst, inl, inr}
 use Rattle.std.specs.Prelude.{codes, decimal}
 use Rattle.classfile.specs.Values.{Class}
 use Rattle.classfile.specs.CodeMethods.{judged}
@@ -11,7 +11,7 @@ use Rattle.hierarchy.specs.Rules.{IsHierarchy}
 use Rattle.hierarchy.specs.ClassSummary.{summary_of}
 use Rattle.printing.specs.Names.{spelled_text}
 use Rattle.verify.specs.declared.judgements.Judgement.{Judgement}
-use Rattle.verify.specs.declared.judgements.Judgement.TheVariants.{Reported, Refused, NotInHierarchy, FinalSuper}
+use Rattle.verify.specs.declared.judgements.Judgement.TheVariants.{Reported, Refused, NotInHierarchy, Final}
 use Rattle.verify.specs.declared.report.Report.{Report}
 use Rattle.verify.specs.declared.report.ClassFault.{ClassFault}
 use Rattle.verify.specs.declared.report.ClassFault.TheVariants as classes
@@ -25,13 +25,10 @@ use Rattle.answers.specs.declared.command.Form.TheVariants.{Plain, Json}
 use Rattle.answers.specs.declared.manner.Manner.TheVariants.{Told}
 use Rattle.answers.specs.Files.{refusal_status}
 use Rattle.answers.specs.Texts.{kind}
-use Rattle.answers.specs.Verdicts.{class_refusal, named_field}
+use Rattle.answers.specs.Verdicts.{class_refusal, final_refusal, named_field}
 use Rattle.answers.specs.Judgements.{judgement_lines, class_text, class_fields, file_line, numbered_lines, lines_from, judgement_status, greater, worst_status, EachSays}
 use Rattle.answers.proofs.OneFile.{Laws, one_formed, not_refused, one_refusal}
-use Rattle.answers.proofs.OneVerify.{same_refusal, one_class}
-
-false_true : false ≡ true → ⊥
-false_true e = cc
+use Rattle.answers.proofs.OneVerify.{some_same, not_some, same_refusal, one_class}
 
 -- they are written in one way
 record IsSame (form : Form) (j k : Judgement) : Type 0 where
@@ -79,23 +76,24 @@ module _ (laws : Laws) where
         let e = one_refusal laws read r s p q in
         record { lines = ap (class_refusal form) e; text = refl; fields = refl; status = ap refusal_status e }
     same (Refused r) (NotInHierarchy b) p (d, q, f, t) = absurd (not_refused laws read d r q p)
-    same (Refused r) (FinalSuper b) p (d, q, f, t) = absurd (not_refused laws read d r q p)
+    same (Refused r) (Final b s) p (d, q, f, t) = absurd (not_refused laws read d r q p)
     same (Refused r) (Reported b next) p (d, q, f, t) = absurd (not_refused laws read d r q p)
     same (NotInHierarchy a) (Refused s) (c, p, e, t) q = absurd (not_refused laws read c s p q)
-    same (FinalSuper a) (Refused s) (c, p, e, t) q = absurd (not_refused laws read c s p q)
+    same (Final a r) (Refused s) (c, p, e, t) q = absurd (not_refused laws read c s p q)
     same (Reported a report) (Refused s) (c, p, e, t) q = absurd (not_refused laws read c s p q)
     same (NotInHierarchy a) (NotInHierarchy b) p q =
         let e = one_name a.now b.now (Err classes.NotInHierarchy) (Err classes.NotInHierarchy) p q in
         record { lines = refl; text = ap blank e; fields = ap named_field e; status = refl }
-    same (NotInHierarchy a) (FinalSuper b) p q = absurd (not_both a.now b.now (Err classes.NotInHierarchy) (Err classes.FinalSuper) (λ c x y. x y.0) p q)
+    same (NotInHierarchy a) (Final b s) p q = absurd (not_both a.now b.now (Err classes.NotInHierarchy) (Err (classes.Final s)) (λ c x y. x y.0) p q)
     same (NotInHierarchy a) (Reported b next) p q = absurd (not_both a.now b.now (Err classes.NotInHierarchy) (Ok next) (λ c x y. x y.1.listed) p q)
-    same (FinalSuper a) (NotInHierarchy b) p q = absurd (not_both a.now b.now (Err classes.FinalSuper) (Err classes.NotInHierarchy) (λ c x y. y x.0) p q)
-    same (FinalSuper a) (FinalSuper b) p q =
-        let e = one_name a.now b.now (Err classes.FinalSuper) (Err classes.FinalSuper) p q in
-        record { lines = refl; text = ap blank e; fields = ap named_field e; status = refl }
-    same (FinalSuper a) (Reported b next) p q = absurd (not_both a.now b.now (Err classes.FinalSuper) (Ok next) (λ c x y. false_true (sym y.0 ∙ x.1)) p q)
+    same (Final a r) (NotInHierarchy b) p q = absurd (not_both a.now b.now (Err (classes.Final r)) (Err classes.NotInHierarchy) (λ c x y. y x.0) p q)
+    same (Final a r) (Final b s) (c, p, e, t) (d, q, f, u) =
+        let name = one_name a.now b.now (Err (classes.Final r)) (Err (classes.Final s)) (c, p, e, t) (d, q, f, u) in
+        let v = subst (λ x. Reports hierarchy (judged profile x) (Err (classes.Final s))) (sym (one_formed laws read c d p q)) u in
+        record { lines = ap (final_refusal form) (some_same r s (sym t.1 ∙ v.1)); text = ap blank name; fields = ap named_field name; status = refl }
+    same (Final a r) (Reported b next) p q = absurd (not_both a.now b.now (Err (classes.Final r)) (Ok next) (λ c x y. not_some r (sym y.0 ∙ x.1)) p q)
     same (Reported a report) (NotInHierarchy b) p q = absurd (not_both a.now b.now (Ok report) (Err classes.NotInHierarchy) (λ c x y. y x.1.listed) p q)
-    same (Reported a report) (FinalSuper b) p q = absurd (not_both a.now b.now (Ok report) (Err classes.FinalSuper) (λ c x y. false_true (sym x.0 ∙ y.1)) p q)
+    same (Reported a report) (Final b s) p q = absurd (not_both a.now b.now (Ok report) (Err (classes.Final s)) (λ c x y. not_some s (sym x.0 ∙ y.1)) p q)
     same (Reported a report) (Reported b next) (c, p, e, t) (d, q, f, u) =
         let v = subst (λ x. Reports hierarchy (judged profile x) (Ok next)) (sym (one_formed laws read c d p q)) u in
         let one = one_class laws (Told form) hierarchy (judged profile c) _ _ _ _ (inr (t.0, (report.methods.items, t.1, refl, refl))) (inr (v.0, (next.methods.items, v.1, refl, refl))) in

@@ -1,6 +1,6 @@
 -- The answer of `play` is one.
 use Rattle.std.proofs.Common.{◌≡◌, ℕ, zero, suc, ◌+◌, ◌<◌, List, [], ◌∷◌, length, map, Some, refl, sym, ◌∙◌, ap, subst, inl, inr, arith}
-use Rattle.std.specs.Prelude.{◌⊎◌, true, false, ◌++◌, slice_get, codes, decimal}
+use Rattle.std.specs.Prelude.{◌⊎◌, ◌++◌, slice_get, codes, decimal}
 use Rattle.std.proofs.lemmas.Bool.{cases_order}
 use Rattle.std.proofs.lemmas.Option.{none-some}
 use Rattle.classfile.specs.Methods.{JudgedClass}
@@ -13,24 +13,19 @@ use Rattle.verify.specs.declared.verdict.Verdict.TheVariants.{Verified, NoCode, 
 use Rattle.verify.specs.declared.report.MethodVerdict.{MethodVerdict}
 use Rattle.verify.specs.declared.report.Report.{Report}
 use Rattle.verify.specs.declared.play.PlayRule.{PlayRule}
-use Rattle.verify.specs.declared.play.PlayRule.TheVariants.{NotInHierarchy, FinalSuper, ClassInPlayTwice}
+use Rattle.verify.specs.declared.play.PlayRule.TheVariants.{NotInHierarchy, Final, ClassInPlayTwice}
 use Rattle.verify.specs.OneVerdict.{AreSameVerdict}
 use Rattle.verify.specs.Files.{Read}
 use Rattle.verify.specs.Reports.{IsReport}
 use Rattle.verify.specs.Plays.{IsFineVerdict, IsFirstRefused, IsFine, HasRefused, Breaks, AreFine}
+use Rattle.printing.specs.Json.{number, fields_behind}
 use Rattle.answers.specs.Files.{refusal_status}
 use Rattle.answers.specs.Verdicts.{verdict_line}
 use Rattle.answers.specs.declared.command.Form.{Form}
 use Rattle.answers.specs.declared.command.Form.TheVariants.{Plain, Json}
 use Rattle.answers.specs.Plays.{numbered_refusal, class_by_number, rule_refusal, method_refusal, BrokenSays, ClassesSay, TogetherSay, PlaySays}
 use Rattle.answers.proofs.OneFile.{Laws}
-use Rattle.answers.proofs.OneVerify.{same_refusal, same_line, one_list, one_first, none_refused}
-
-false_true : false ≡ true → ⊥
-false_true e = cc
-
-some_same : {A : Type 0} (a b : A) → Some a ≡ Some b → a ≡ b
-some_same a b e = cc
+use Rattle.answers.proofs.OneVerify.{some_same, not_some, same_refusal, same_line, one_list, one_first, none_refused}
 
 -- ---- lists
 
@@ -55,17 +50,17 @@ fine_too _ _ e f = absurd e
 
 same_method : (form : Form) (n : ℕ) (r o : MethodVerdict) → verdict_line form r ≡ verdict_line form o → method_refusal form n r ≡ method_refusal form n o
 same_method Plain n r o e = ap (λ line. codes "class " ++ (decimal n ++ (codes " " ++ line))) e
-same_method Json n r o e = ap (λ line. class_by_number n 84 ++ line) e
+same_method Json n r o e = ap (λ line. class_by_number n (fields_behind ((codes "number", number 84) ∷ [])) ++ line) e
 
 module _ (laws : Laws) (form : Form) (classes : List ClassFact) (cs : List JudgedClass) (place : ℕ) (c : JudgedClass) where
   broken_fine : (rule : PlayRule) (rs : List MethodVerdict) → Breaks classes cs place c rule → IsFine classes cs place c rs → ⊥
   broken_fine NotInHierarchy rs b f = b f.report.listed
-  broken_fine FinalSuper rs b f = false_true (sym f.not_final ∙ b.1)
+  broken_fine (Final rule) rs b f = not_some rule (sym f.not_final ∙ b.1)
   broken_fine ClassInPlayTwice rs b f = f.first b.2
 
   broken_refused : (rule : PlayRule) (n : ℕ) (r : MethodVerdict) → Breaks classes cs place c rule → HasRefused classes cs place c n r → ⊥
   broken_refused NotInHierarchy n r b (plain, first, (rs, report, one)) = b report.listed
-  broken_refused FinalSuper n r b (plain, first, (rs, report, one)) = false_true (sym plain ∙ b.1)
+  broken_refused (Final rule) n r b (plain, first, (rs, report, one)) = not_some rule (sym plain ∙ b.1)
   broken_refused ClassInPlayTwice n r b (plain, first, (rs, report, one)) = first b.2
 
   refused_fine : (n : ℕ) (r : MethodVerdict) (qs : List MethodVerdict) → HasRefused classes cs place c n r → IsFine classes cs place c qs → ⊥
@@ -77,13 +72,13 @@ module _ (laws : Laws) (form : Form) (classes : List ClassFact) (cs : List Judge
 
   one_rule : (rule other : PlayRule) → Breaks classes cs place c rule → Breaks classes cs place c other → rule ≡ other
   one_rule NotInHierarchy NotInHierarchy p q = refl
-  one_rule NotInHierarchy FinalSuper p q = absurd (p q.0)
+  one_rule NotInHierarchy (Final rule) p q = absurd (p q.0)
   one_rule NotInHierarchy ClassInPlayTwice p q = absurd (p q.0)
-  one_rule FinalSuper NotInHierarchy p q = absurd (q p.0)
-  one_rule FinalSuper FinalSuper p q = refl
-  one_rule FinalSuper ClassInPlayTwice p q = absurd (false_true (sym q.1 ∙ p.1))
+  one_rule (Final rule) NotInHierarchy p q = absurd (q p.0)
+  one_rule (Final rule) (Final other) p q = ap (λ r. Final r) (some_same rule other (sym p.1 ∙ q.1))
+  one_rule (Final rule) ClassInPlayTwice p q = absurd (not_some rule (sym q.1 ∙ p.1))
   one_rule ClassInPlayTwice NotInHierarchy p q = absurd (q p.0)
-  one_rule ClassInPlayTwice FinalSuper p q = absurd (false_true (sym p.1 ∙ q.1))
+  one_rule ClassInPlayTwice (Final rule) p q = absurd (not_some rule (sym p.1 ∙ q.1))
   one_rule ClassInPlayTwice ClassInPlayTwice p q = refl
 
   -- the first method that is refused comes later in neither report

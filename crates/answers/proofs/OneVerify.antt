@@ -40,14 +40,14 @@ use Rattle.verify.specs.declared.files.FileFault.TheVariants as files
 use Rattle.verify.specs.declared.files.FileFault.TheVariants.{Malformed}
 use Rattle.verify.specs.Files.{Read, IsDecoded, IsFormed, IsRefused, AreFormed, IsFirstRefused}
 use Rattle.answers.specs.Files.{File, reads_of, refusal_status}
-use Rattle.answers.specs.Verdicts.{class_object, class_refusal, known_object, known_refusal, explained, verdict_object, IsPart, ArePartFields, IsTold, hierarchy_told, IsReportTold, fault_name, named_field, name_fields, hierarchy_refusal, reason_ending, reason_fields, verdict_text, verdict_fields, verdict_line, is_refusal, ClassSays, HierarchySays, KnownSays, VerifySays}
+use Rattle.answers.specs.Verdicts.{class_object, class_refusal, known_object, known_refusal, explained, verdict_object, IsPart, ArePartFields, IsTold, final_told, hierarchy_told, IsReportTold, fault_name, named_field, name_fields, hierarchy_refusal, reason_ending, reason_fields, verdict_text, verdict_fields, verdict_line, is_refusal, ClassSays, HierarchySays, KnownSays, VerifySays}
 use Rattle.answers.proofs.OneFile.{Laws, one_formed, not_refused, one_refusal}
 
-false_true : false ≡ true → ⊥
-false_true e = cc
-
-some_same : {A : Type 0} (a b : A) → Some a ≡ Some b → a ≡ b
+pub some_same : {A : Type 0} (a b : A) → Some a ≡ Some b → a ≡ b
 some_same a b e = cc
+
+pub not_some : {A : Type 0} (a : A) → None ≡ Some a → ⊥
+not_some a e = cc
 
 -- ---- of hierarchies
 
@@ -340,9 +340,10 @@ module _ (laws : Laws) where
 
   pub one_class : (manner : Manner) (classes : List ClassFact) (c : JudgedClass) (text other : List ℕ) (status next : ℕ)
       → ClassSays manner classes c text status → ClassSays manner classes c other next → (text ≡ other) × (status ≡ next)
-  one_class manner classes c text other status next (inl (f, t, s)) (inl (g, u, v)) = (t ∙ sym u, s ∙ sym v)
-  one_class manner classes c text other status next (inl (f, t, s)) (inr (g, q)) = absurd (false_true (sym g ∙ f))
-  one_class manner classes c text other status next (inr (f, p)) (inl (g, u, v)) = absurd (false_true (sym f ∙ g))
+  one_class manner classes c text other status next (inl (r, f, t, s)) (inl (o, g, u, v)) =
+      (t ∙ ap (final_told manner c.file) (some_same r o (sym f ∙ g)) ∙ sym u, s ∙ sym v)
+  one_class manner classes c text other status next (inl (r, f, t, s)) (inr (g, q)) = absurd (not_some r (sym g ∙ f))
+  one_class manner classes c text other status next (inr (f, p)) (inl (r, g, u, v)) = absurd (not_some r (sym f ∙ g))
   one_class manner classes c text other status next (inr (f, (rs, p, t, s))) (inr (g, (qs, q, u, v))) =
       let report = laws.one_report classes c rs qs p q in
       (same_report manner classes c rs qs text other report t u, s ∙ ap (λ b. if b then 1 else 0) (same_lines Plain rs qs report.all report.each).1 ∙ sym v)

@@ -7,7 +7,7 @@ use Rattle.classfile.specs.declared.versions.Versions.{Versions}
 use Rattle.classfile.specs.Values.{Class}
 use Rattle.classfile.specs.Laws.{OneClass}
 use Rattle.verify.specs.declared.known_classes.AmongFault.{AmongFault}
-use Rattle.verify.specs.declared.known_classes.AmongFault.TheVariants.{OutOfMemory, Refused, KnownRefused, NoHierarchy, FinalSuper}
+use Rattle.verify.specs.declared.known_classes.AmongFault.TheVariants.{OutOfMemory, Refused, KnownRefused, NoHierarchy, Final}
 use Rattle.verify.specs.Among.{ReportsAmong}
 use Rattle.classfile.specs.declared.reading.CutShort.{CutShort}
 use Rattle.verify.specs.Files.{Read, IsFormed}
@@ -28,7 +28,7 @@ counted profile read known (KnownRefused number fault) (c, i, formed, same, firs
     let lt : i < length known = slice_get_within known i first.read first.here in
     (omega (arith, same), omega (arith, same, lt))
 counted profile read known (NoHierarchy fault) p = tt
-counted profile read known FinalSuper p = tt
+counted profile read known (Final rule) p = tt
 
 -- what was read of each file
 pub viewed : {Z : Type 0} (v : Versions) (xs : List (Result (Vec ℕ Z) CutShort)) → map (input_read v) xs ≡ reads_of (map (input_file v) xs)

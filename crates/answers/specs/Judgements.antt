@@ -5,7 +5,7 @@ use Rattle.std.specs.List.{flat_map}
 use Rattle.classfile.specs.declared.profile.Profile.{Profile}
 use Rattle.hierarchy.specs.declared.fault.HierarchyFault.{HierarchyFault}
 use Rattle.verify.specs.declared.judgements.Judgement.{Judgement}
-use Rattle.verify.specs.declared.judgements.Judgement.TheVariants.{Reported, Refused, NotInHierarchy, FinalSuper}
+use Rattle.verify.specs.declared.judgements.Judgement.TheVariants.{Reported, Refused, NotInHierarchy, Final}
 use Rattle.verify.specs.declared.judgements.EachFault.TheVariants.{NoHierarchy}
 use Rattle.printing.specs.Names.{spelled_text}
 use Rattle.verify.specs.Files.{Read}
@@ -15,7 +15,7 @@ use Rattle.answers.specs.declared.command.Form.{Form}
 use Rattle.answers.specs.declared.command.Form.TheVariants.{Plain, Json}
 use Rattle.answers.specs.Files.{refusal_status}
 use Rattle.answers.specs.Texts.{kind, answer}
-use Rattle.answers.specs.Verdicts.{class_refusal, named_field, final_super_refusal, hierarchy_refusal, verdict_line, report_status}
+use Rattle.answers.specs.Verdicts.{class_refusal, named_field, final_refusal, hierarchy_refusal, verdict_line, report_status}
 
 -- ---- texts, in words or as objects of JSON; files count from 1
 
@@ -30,21 +30,21 @@ abbrev pub judgement_lines : Form → Judgement → List ℕ
 judgement_lines form (Reported name report) = flat_map (verdict_line form) report.methods.items
 judgement_lines form (Refused r) = class_refusal form r
 judgement_lines form (NotInHierarchy name) = outside_refusal form
-judgement_lines form (FinalSuper name) = final_super_refusal form
+judgement_lines form (Final name rule) = final_refusal form rule
 
 -- the name of the class after a blank, where there is a class
 abbrev pub class_text : Judgement → List ℕ
 class_text (Reported name report) = codes " " ++ spelled_text name.now
 class_text (Refused r) = []
 class_text (NotInHierarchy name) = codes " " ++ spelled_text name.now
-class_text (FinalSuper name) = codes " " ++ spelled_text name.now
+class_text (Final name rule) = codes " " ++ spelled_text name.now
 
 -- the name as a field, where there is a class
 abbrev pub class_fields : Judgement → List Field
 class_fields (Reported name report) = named_field name.now
 class_fields (Refused r) = []
 class_fields (NotInHierarchy name) = named_field name.now
-class_fields (FinalSuper name) = named_field name.now
+class_fields (Final name rule) = named_field name.now
 
 -- the line with the number of a file and the name of its class
 abbrev pub file_line : Form → ℕ → Judgement → List ℕ
@@ -66,7 +66,7 @@ abbrev pub judgement_status : Judgement → ℕ
 judgement_status (Reported name report) = report_status report.methods.items
 judgement_status (Refused r) = refusal_status r
 judgement_status (NotInHierarchy name) = 1
-judgement_status (FinalSuper name) = 1
+judgement_status (Final name rule) = 1
 
 abbrev pub greater : ℕ → ℕ → ℕ
 greater a b = if nat_lt a b then b else a

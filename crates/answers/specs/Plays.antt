@@ -13,13 +13,14 @@ use Rattle.verify.specs.declared.files.FileFault.{FileFault}
 use Rattle.verify.specs.declared.report.MethodVerdict.{MethodVerdict}
 use Rattle.verify.specs.declared.report.Report.{Report}
 use Rattle.verify.specs.declared.play.PlayRule.{PlayRule}
+use Rattle.verify.specs.declared.play.PlayRule.TheVariants.{NotInHierarchy, Final, ClassInPlayTwice}
 use Rattle.verify.specs.Files.{Read, AreFormed, IsFirstRefused}
 use Rattle.verify.specs.Together.{facts_in}
-use Rattle.verify.specs.Plays.{HasRefused, Breaks, ArePlayed, BreaksFirst, rule_number}
+use Rattle.verify.specs.Plays.{HasRefused, Breaks, ArePlayed, BreaksFirst}
 use Rattle.answers.specs.Files.{refusal_status}
-use Rattle.printing.specs.Json.{number, object_line}
+use Rattle.printing.specs.Json.{Field, number, object_line, object_then, fields_behind}
 use Rattle.answers.specs.Texts.{refusal_text, refusal_fields, kind, answer}
-use Rattle.answers.specs.Verdicts.{hierarchy_refusal, verdict_line}
+use Rattle.answers.specs.Verdicts.{final_rule_text, final_rule_fields, hierarchy_refusal, verdict_line}
 use Rattle.answers.specs.declared.command.Form.{Form}
 use Rattle.answers.specs.declared.command.Form.TheVariants.{Plain, Json}
 
@@ -32,20 +33,32 @@ numbered_refusal Json position r =
     object_line (kind (codes "class") ∷ (codes "position", number position) ∷ answer (codes "refused")
     ∷ refusal_fields r)
 
-abbrev pub class_by_number : ℕ → ℕ → List ℕ
-class_by_number position n =
-    object_line (kind (codes "class") ∷ (codes "position", number position) ∷ answer (codes "refused")
-    ∷ (codes "number", number n) ∷ [])
+-- a rule that a class breaks: its number, and what breaks it
+abbrev pub rule_text : PlayRule → List ℕ
+rule_text NotInHierarchy = decimal 80
+rule_text (Final rule) = final_rule_text rule
+rule_text ClassInPlayTwice = decimal 83
+
+abbrev pub rule_fields : PlayRule → List Field
+rule_fields NotInHierarchy = (codes "number", number 80) ∷ []
+rule_fields (Final rule) = final_rule_fields rule
+rule_fields ClassInPlayTwice = (codes "number", number 83) ∷ []
+
+-- the object of the class of this number that is refused, with this text after these fields
+abbrev pub class_by_number : ℕ → List ℕ → List ℕ
+class_by_number position rest =
+    object_then (kind (codes "class")) ((codes "position", number position) ∷ answer (codes "refused") ∷ []) rest
 
 abbrev pub rule_refusal : Form → ℕ → PlayRule → List ℕ
-rule_refusal Plain position rule = codes "class "
-    ++ (decimal position ++ (codes " refused " ++ (decimal (rule_number rule) ++ codes "\n")))
-rule_refusal Json position rule = class_by_number position (rule_number rule)
+rule_refusal Plain position rule =
+    codes "class " ++ (decimal position ++ (codes " refused " ++ (rule_text rule ++ codes "\n")))
+rule_refusal Json position rule = class_by_number position (fields_behind (rule_fields rule))
 
 -- the object of the class says which class it is, and that of the method what the verdict is
 abbrev pub method_refusal : Form → ℕ → MethodVerdict → List ℕ
 method_refusal Plain position r = codes "class " ++ (decimal position ++ (codes " " ++ verdict_line Plain r))
-method_refusal Json position r = class_by_number position 84 ++ verdict_line Json r
+method_refusal Json position r =
+    class_by_number position (fields_behind ((codes "number", number 84) ∷ [])) ++ verdict_line Json r
 
 abbrev pub play_verified : Form → List ℕ
 play_verified Plain = codes "play verified\n"

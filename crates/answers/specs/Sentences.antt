@@ -72,6 +72,7 @@ sentences =
     ∷ (79, codes "BadCode: the code is refused at this instruction")
     ∷ (81, codes "FinalSuper: the superclass of the class is final")
     ∷ (82, codes "ProtectedMember: a protected member of another package is used on an object that is not assignable to the current class")
+    ∷ (85, codes "FinalOverridden: the method overrides a final method of a class above, which it may not")
     ∷ (86, codes "NotDirectInterface: invokespecial calls a method of an interface that is neither the class itself nor one of its direct superinterfaces")
     ∷ (87, codes "BadDebugTable: a row of a debug table passes the code or the local variables, is not of its form, or stands twice")
     ∷ (90, codes "BadBootstrap: the class has no bootstrap method for the constant, or one whose handle or arguments may not be used")

@@ -7,6 +7,7 @@ use Rattle.classfile.specs.Values.{CodeBody, Class}
 use Rattle.classfile.specs.Methods.{JudgedClass}
 use Rattle.classfile.specs.CodeMethods.{judged}
 use Rattle.classfile.specs.FileParts.{fault_part}
+use Rattle.classfile.specs.declared.form_fault.Place.TheVariants.{Method}
 use Rattle.classfile.specs.declared.profile.Profile.{Profile}
 use Rattle.hierarchy.specs.declared.fault.HierarchyFault.{HierarchyFault}
 use Rattle.hierarchy.specs.declared.fault.HierarchyFault.TheVariants.{OutOfMemory, ClassTwice, Cycle, SuperMissing, NoObject, BadArrayInterface, TooManyClasses, InterfaceSuper}
@@ -20,11 +21,15 @@ use Rattle.rules.specs.Reasons.{reason_number}
 use Rattle.verify.specs.declared.verdict.Verdict.{Verdict}
 use Rattle.verify.specs.declared.verdict.Verdict.TheVariants.{Verified, NoCode, Refused}
 use Rattle.verify.specs.declared.report.MethodVerdict.{MethodVerdict}
-use Rattle.verify.specs.FinalSuper.{has_final_super}
+use Rattle.verify.specs.declared.final_rules.FinalRule.{FinalRule}
+use Rattle.verify.specs.declared.final_rules.FinalRule.TheVariants.{FinalSuper, FinalOverridden}
+use Rattle.verify.specs.FinalRules.{final_rule, final_rule_number}
+use Rattle.verify.specs.Beside.{GoWith}
 use Rattle.verify.specs.declared.frames_at.FramesAt.{FramesAt}
 use Rattle.verify.specs.Coming.{FramesFact, AreFramed}
 use Rattle.verify.specs.Reports.{IsReport}
-use Rattle.printing.specs.Faults.{at_text}
+use Rattle.printing.specs.Faults.{at_text, place_text}
+use Rattle.printing.specs.FaultFields.{place_fields}
 use Rattle.printing.specs.Names.{name_text, spelled_text}
 use Rattle.printing.specs.Json.{Field, number, spelled, name, object_then, object_line, fields_then, fields_behind}
 use Rattle.answers.specs.Texts.{refusal_text, refusal_fields, kind, answer}
@@ -105,11 +110,28 @@ hierarchy_object f rest =
     object_then (kind (codes "hierarchy"))
     (answer (codes "refused") ∷ (codes "number", number (number_of f)) ∷ name_fields f) rest
 
--- the superclass of the class is final
-abbrev pub final_super_refusal : Form → List ℕ
-final_super_refusal Plain = codes "class refused 81\n"
-final_super_refusal Json = object_line
-    (kind (codes "class") ∷ answer (codes "refused") ∷ (codes "number", number 81) ∷ [])
+-- a rule on final classes and methods: its number, and then the method that breaks it
+abbrev pub final_rule_text : FinalRule → List ℕ
+final_rule_text FinalSuper = decimal 81
+final_rule_text (FinalOverridden method) = decimal 85 ++ place_text (Method method)
+
+abbrev pub final_rule_fields : FinalRule → List Field
+final_rule_fields FinalSuper = (codes "number", number 81) ∷ []
+final_rule_fields (FinalOverridden method) = (codes "number", number 85) ∷ place_fields (Method method)
+
+-- the class breaks it
+abbrev pub final_refusal : Form → FinalRule → List ℕ
+final_refusal Plain rule = codes "class refused " ++ (final_rule_text rule ++ codes "\n")
+final_refusal Json rule = object_line (kind (codes "class") ∷ answer (codes "refused") ∷ final_rule_fields rule)
+
+-- that method, as the part of the class
+abbrev pub final_part_lines : Class → FinalRule → List ℕ
+final_part_lines c FinalSuper = []
+final_part_lines c (FinalOverridden method) = part_lines c (Method method)
+
+abbrev pub final_part_fields : Class → FinalRule → List Field
+final_part_fields c FinalSuper = []
+final_part_fields c (FinalOverridden method) = part_fields c (Method method)
 
 -- the text after a reason: the class that is missing, or the number of the fault in a stack map or in code
 abbrev pub reason_ending : Reason → List ℕ
@@ -205,11 +227,14 @@ hierarchy_told (Told form) f = hierarchy_refusal form f
 hierarchy_told (Explained Plain) f = hierarchy_refusal Plain f ++ sentence_line (number_of f)
 hierarchy_told (Explained Json) f = hierarchy_object f (fields_behind (sentence_fields (number_of f)))
 
-abbrev pub final_super_told : Manner → List ℕ
-final_super_told (Told form) = final_super_refusal form
-final_super_told (Explained Plain) = final_super_refusal Plain ++ sentence_line 81
-final_super_told (Explained Json) =
-    object_line (kind (codes "class") ∷ answer (codes "refused") ∷ (codes "number", number 81) ∷ sentence_fields 81)
+abbrev pub final_told : Manner → Class → FinalRule → List ℕ
+final_told (Told form) c rule = final_refusal form rule
+final_told (Explained Plain) c rule =
+    final_refusal Plain rule ++ (sentence_line (final_rule_number rule) ++ final_part_lines c rule)
+final_told (Explained Json) c rule =
+    object_then (kind (codes "class"))
+    (answer (codes "refused") ∷ final_rule_fields rule)
+    (fields_then (sentence_fields (final_rule_number rule)) (fields_behind (final_part_fields c rule)))
 
 -- the text about the methods of a class; `explain` writes only about those that are refused, with the frames at the
 -- instructions at which they are
@@ -226,11 +251,13 @@ abbrev pub ReportSays : Manner → List ClassFact → JudgedClass → List ℕ �
 ReportSays manner classes c text status = (rs : List MethodVerdict) × IsReport classes c rs
     × IsReportTold manner classes c rs text × (status ≡ report_status rs)
 
--- The answer about a class in a hierarchy: its superclass is final, or there are verdicts on its methods.
+-- The answer about a class in a hierarchy: it breaks a rule on final classes and methods, or there are verdicts on its
+-- methods.
 abbrev pub ClassSays : Manner → List ClassFact → JudgedClass → List ℕ → ℕ → Type 0
 ClassSays manner classes c text status =
-    ((has_final_super classes (summary_of c.file) ≡ true) × (text ≡ final_super_told manner) × (status ≡ 1))
-    ⊎ ((has_final_super classes (summary_of c.file) ≡ false) × ReportSays manner classes c text status)
+    ((rule : FinalRule) × (final_rule classes (summary_of c.file) ≡ Some rule) × (text ≡ final_told manner c.file rule)
+    × (status ≡ 1))
+    ⊎ ((final_rule classes (summary_of c.file) ≡ None) × ReportSays manner classes c text status)
 
 -- The answer about a class and its known classes: why they are no hierarchy, or the answer about the class in it.
 abbrev pub HierarchySays : Manner → List ClassFact → JudgedClass → List ℕ → ℕ → Type 0
@@ -256,3 +283,8 @@ VerifySays manner profile file known text status =
     ((r : FileFault) × IsRefused file.read r
     × IsTold manner file r (λ form. class_refusal form r) (class_object r) text × (status ≡ refusal_status r))
     ⊎ ((c : Class) × IsFormed file.read c × KnownSays manner (judged profile c) known text status)
+
+-- the answer about the class in a file and the files that go with it; where the file is refused, about it alone
+abbrev pub BesideSays : Manner → Profile → File → (Class → List File) → List ℕ → ℕ → Type 0
+BesideSays manner profile file beside text status = (known : List File) × GoWith file.read beside known
+    × VerifySays manner profile file known text status

@@ -65,7 +65,7 @@ pub fn answer<W: Write, S: BuildHasher + Drop>(
 }
 
 /// The file of a class that is judged by a profile.
-fn judged<'a>(profile: Profile, read: &'a Result<Vec<u8>, CutShort>) -> InputFile<'a>
+pub fn judged<'a>(profile: Profile, read: &'a Result<Vec<u8>, CutShort>) -> InputFile<'a>
     ensures { file_view result ≡ judged_file profile (input_view read.now) }
 {
     let versions = profile.judged_versions();

@@ -5,7 +5,7 @@ ghost use Rattle.answers.specs.Judgements.{outside_refusal, judgement_lines, cla
 
 use crate::command::Form;
 use crate::refusal::Refusal;
-use crate::verdicts::{ClassRefusal, FinalSuper, ReportText};
+use crate::verdicts::{ClassRefusal, FinalRefusal, ReportText};
 use printing::{
     END, More, Number, Object, Print, Quoted, QuotedSpelled, Spelled, Then, Word, WriteFailed,
 };
@@ -59,7 +59,10 @@ impl<'r, 'a> Print for JudgementLines<'r, 'a> {
                 ClassRefusal { form, refusal }.put(out)
             }
             Judgement::NotInHierarchy { .. } => OutsideRefusal(form).put(out),
-            Judgement::FinalSuper { .. } => FinalSuper(form).put(out),
+            Judgement::Final { rule, .. } => {
+                let rule = *rule;
+                FinalRefusal { form, rule }.put(out)
+            }
         }
     }
 }
@@ -76,7 +79,7 @@ impl<'r, 'a> Print for ClassText<'r, 'a> {
             Judgement::Refused(_) => Word("").put(out),
             Judgement::Reported { name, .. }
             | Judgement::NotInHierarchy { name }
-            | Judgement::FinalSuper { name } => Then(Word(" "), Spelled(name)).put(out),
+            | Judgement::Final { name, .. } => Then(Word(" "), Spelled(name)).put(out),
         }
     }
 }
@@ -93,7 +96,7 @@ impl<'r, 'a, B: Print + Copy> Print for ClassFields<'r, 'a, B> {
             Judgement::Refused(_) => self.1.put(out),
             Judgement::Reported { name, .. }
             | Judgement::NotInHierarchy { name }
-            | Judgement::FinalSuper { name } => More("name", QuotedSpelled(name), self.1).put(out),
+            | Judgement::Final { name, .. } => More("name", QuotedSpelled(name), self.1).put(out),
         }
     }
 }
@@ -187,7 +190,7 @@ fn judgement_status(judgement: &Judgement<'_>) -> u8
     match judgement {
         Judgement::Reported { report, .. } => report_text(Form::Plain, report).status(),
         Judgement::Refused(fault) => Refusal(*fault).status(),
-        Judgement::NotInHierarchy { .. } | Judgement::FinalSuper { .. } => 1,
+        Judgement::NotInHierarchy { .. } | Judgement::Final { .. } => 1,
     }
 }
 

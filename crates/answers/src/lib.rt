@@ -6,6 +6,7 @@
 //! - `answering`: `answer`, which answers a command by one of the modules below.
 //! - `checking`, `showing`, `playing`, `verifying_each`: the answers to `check`, `show`, `play` and `verify-each`.
 //! - `verifying`: the answers to `verify` and `explain`; `manner`: which of the two, and the form.
+//! - `beside`: `answer_beside`, the answers to `verify` and `explain` beside classes that are known by their summaries.
 //! - `reads`: files as they were read, for the verifier; `fault`: why an answer was not written.
 //!
 //! The texts:
@@ -25,6 +26,7 @@
 #![tactic(auto)]
 
 mod answering;
+mod beside;
 mod checking;
 mod command;
 mod details;
@@ -47,6 +49,9 @@ mod verifying;
 mod verifying_each;
 
 pub use answering::answer;
+pub use beside::answer_beside;
 pub use command::{Command, Form};
 pub use fault::AnswerFault;
 pub use laws::one_answer;
+pub use manner::Manner;
+pub use refusal::{Refusal, RefusalFields};

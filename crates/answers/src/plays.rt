@@ -1,9 +1,10 @@
 //! The lines of `play`. Classes count from 1.
-ghost use Rattle.answers.specs.Plays.{numbered_refusal, class_by_number, rule_refusal, method_refusal, play_verified};
+ghost use Rattle.printing.specs.Json.{fields_then};
+ghost use Rattle.answers.specs.Plays.{numbered_refusal, class_by_number, rule_text, rule_fields, rule_refusal, method_refusal, play_verified};
 
 use crate::command::Form;
 use crate::refusal::{Refusal, RefusalFields};
-use crate::verdicts::VerdictLine;
+use crate::verdicts::{FinalRuleFields, FinalRuleText, VerdictLine};
 use printing::{END, More, Number, Object, Print, Quoted, Then, Word, WriteFailed};
 use std::io::Write;
 use verify::{MethodVerdict, PlayRule};
@@ -35,20 +36,48 @@ impl Print for NumberedRefusal {
     }
 }
 
-/// The class of this number is refused by a number, as an object of JSON.
+/// A rule that a class breaks: its number, and what breaks it.
 #[derive(Clone, Copy)]
-struct ClassByNumber {
-    position: usize,
-    number: u8,
-}
+struct RuleText(PlayRule);
 
-impl Print for ClassByNumber {
-    ghost text = { λ t. class_by_number t.position t.number };
+impl Print for RuleText {
+    ghost text = { λ t. rule_text t.0 };
 
     fn put<W: Write>(&self, out: &mut W) -> Result<(), WriteFailed> {
-        let number = More("number", Number(u64::from(self.number)), END);
-        let refused = More("answer", Quoted("refused"), number);
-        let position = More("position", Number(self.position), refused);
+        match self.0 {
+            PlayRule::NotInHierarchy => Number(80_u64).put(out),
+            PlayRule::Final(rule) => FinalRuleText(rule).put(out),
+            PlayRule::ClassInPlayTwice => Number(83_u64).put(out),
+        }
+    }
+}
+
+/// A rule that a class breaks as fields of an object, and then the text after them.
+#[derive(Clone, Copy)]
+struct RuleFields<B>(PlayRule, B);
+
+impl<B: Print + Copy> Print for RuleFields<B> {
+    ghost text = { λ t. fields_then (rule_fields t.0) (B.text t.1) };
+
+    fn put<W: Write>(&self, out: &mut W) -> Result<(), WriteFailed> {
+        match self.0 {
+            PlayRule::NotInHierarchy => More("number", Number(80_u64), self.1).put(out),
+            PlayRule::Final(rule) => FinalRuleFields(rule, self.1).put(out),
+            PlayRule::ClassInPlayTwice => More("number", Number(83_u64), self.1).put(out),
+        }
+    }
+}
+
+/// The class of this number is refused, as an object of JSON, and then the text after these fields.
+#[derive(Clone, Copy)]
+struct ClassByNumber<B>(usize, B);
+
+impl<B: Print + Copy> Print for ClassByNumber<B> {
+    ghost text = { λ t. class_by_number t.0 (B.text t.1) };
+
+    fn put<W: Write>(&self, out: &mut W) -> Result<(), WriteFailed> {
+        let refused = More("answer", Quoted("refused"), self.1);
+        let position = More("position", Number(self.0), refused);
         Object("kind", Quoted("class"), position).put(out)
     }
 }
@@ -65,14 +94,13 @@ impl Print for RuleRefusal {
     ghost text = { λ t. rule_refusal t.form t.number t.rule };
 
     fn put<W: Write>(&self, out: &mut W) -> Result<(), WriteFailed> {
-        let (position, number) = (self.number, self.rule.number());
+        let position = self.number;
         match self.form {
             Form::Plain => {
-                let rule = Then(Number(u64::from(number)), Word("\n"));
-                let refused = Then(Word(" refused "), rule);
+                let refused = Then(Word(" refused "), Then(RuleText(self.rule), Word("\n")));
                 Then(Word("class "), Then(Number(position), refused)).put(out)
             }
-            Form::Json => ClassByNumber { position, number }.put(out),
+            Form::Json => ClassByNumber(position, RuleFields(self.rule, END)).put(out),
         }
     }
 }
@@ -97,14 +125,10 @@ impl<'a> Print for MethodRefusal<'a> {
                 let class = Then(Number(position), Then(Word(" "), line));
                 Then(Word("class "), class).put(out)
             }
-            Form::Json => Then(
-                ClassByNumber {
-                    position,
-                    number: 84,
-                },
-                line,
-            )
-            .put(out),
+            Form::Json => {
+                let number = More("number", Number(84_u64), END);
+                Then(ClassByNumber(position, number), line).put(out)
+            }
         }
     }
 }

@@ -4,6 +4,7 @@ ghost use Rattle.layout.specs.Refusals.{read_fault_number};
 ghost use Rattle.classfile.specs.Conditions.{rule_number};
 ghost use Rattle.hierarchy.specs.Faults.{number_of};
 ghost use Rattle.rules.specs.Reasons.{reason_number};
+ghost use Rattle.verify.specs.FinalRules.{final_rule_number};
 ghost use Rattle.answers.specs.Sentences.{sentence, fault_sentence, numbered_line, sentence_line, fault_line, fault_lines, reason_lines, sentence_fields, fault_sentence_fields, reason_sentence_fields, file_fault_number, version_sentence, kind_sentence, release_sentence, file_sentence, file_sentence_line, file_sentence_fields};
 ghost use Rattle.printing.specs.Json.{fields_then, fields_behind};
 
@@ -13,7 +14,7 @@ use layout::ReadFault;
 use printing::{END, More, Number, Print, Quoted, Then, Word, WriteFailed};
 use rules::Reason;
 use std::io::Write;
-use verify::FileFault;
+use verify::{FileFault, FinalRule};
 
 /// The sentence on a fault of bytes.
 fn read_sentence(fault: &ReadFault) -> &'static str
@@ -92,6 +93,17 @@ fn hierarchy_sentence(fault: &HierarchyFault<'_>) -> &'static str
         HierarchyFault::TooManyClasses => "TooManyClasses: there are more than 65,535 classes",
         HierarchyFault::InterfaceSuper { .. } =>
             "InterfaceSuper: the superclass of the interface is not java/lang/Object",
+    }
+}
+
+/// The sentence on a rule on final classes and methods.
+fn final_sentence(rule: FinalRule) -> &'static str
+    ensures { result.now ≡ sentence (final_rule_number rule) }
+{
+    match rule {
+        FinalRule::FinalSuper => "FinalSuper: the superclass of the class is final",
+        FinalRule::FinalOverridden { .. } =>
+            "FinalOverridden: the method overrides a final method of a class above, which it may not",
     }
 }
 
@@ -296,17 +308,17 @@ impl<'a> Print for HierarchySentence<'a> {
     }
 }
 
-/// The line that says that the superclass is final.
+/// The line on a rule on final classes and methods.
 #[derive(Clone, Copy)]
-pub struct FinalSuperSentence;
+pub struct FinalSentence(pub FinalRule);
 
-impl Print for FinalSuperSentence {
-    ghost text = { λ t. sentence_line 81 };
+impl Print for FinalSentence {
+    ghost text = { λ t. sentence_line (final_rule_number t.0) };
 
     fn put<W: Write>(&self, out: &mut W) -> Result<(), WriteFailed> {
         NumberedLine {
-            number: 81,
-            text: "FinalSuper: the superclass of the class is final",
+            number: self.0.number(),
+            text: final_sentence(self.0),
         }
         .put(out)
     }
@@ -384,16 +396,15 @@ impl<'a> Print for HierarchySentenceField<'a> {
     }
 }
 
-/// The sentence on a final superclass as the last field of an object.
+/// The sentence on a rule on final classes and methods as a field, and then the text after it.
 #[derive(Clone, Copy)]
-pub struct FinalSuperSentenceField;
+pub struct FinalSentenceField<B>(pub FinalRule, pub B);
 
-impl Print for FinalSuperSentenceField {
-    ghost text = { λ t. fields_behind (sentence_fields 81) };
+impl<B: Print + Copy> Print for FinalSentenceField<B> {
+    ghost text = { λ t. fields_then (sentence_fields (final_rule_number t.0)) (B.text t.1) };
 
     fn put<W: Write>(&self, out: &mut W) -> Result<(), WriteFailed> {
-        let text = "FinalSuper: the superclass of the class is final";
-        More("sentence", Quoted(text), END).put(out)
+        More("sentence", Quoted(final_sentence(self.0)), self.1).put(out)
     }
 }
 

@@ -3,18 +3,19 @@ ghost use Rattle.std.specs.Prelude.{◌≡◌};
 ghost use Rattle.std.specs.List.{flat_map};
 ghost use Rattle.printing.specs.Writing.{Writes};
 ghost use Rattle.printing.specs.Json.{fields_then};
-ghost use Rattle.answers.specs.Verdicts.{class_object, class_refusal, known_object, file_object, known_refusal, fault_name, named_field, name_fields, hierarchy_object, hierarchy_refusal, final_super_refusal, reason_ending, reason_fields, verdict_text, verdict_fields, verdict_object, verdict_line, is_refusal, report_status};
+ghost use Rattle.answers.specs.Verdicts.{class_object, class_refusal, known_object, file_object, known_refusal, fault_name, named_field, name_fields, hierarchy_object, hierarchy_refusal, final_rule_text, final_rule_fields, final_refusal, reason_ending, reason_fields, verdict_text, verdict_fields, verdict_object, verdict_line, is_refusal, report_status};
 
 use crate::command::Form;
 use crate::refusal::{Refusal, RefusalFields};
+use classfile::Place;
 use hierarchy::HierarchyFault;
 use printing::{
-    END, Lines, More, Name, Number, Object, Print, Quoted, QuotedName, QuotedSpelled, Spelled,
-    Then, Word, WriteFailed, put_lines,
+    END, Lines, More, Name, Number, Object, PlaceFields, Print, Quoted, QuotedName, QuotedSpelled,
+    Spelled, Then, Word, WriteFailed, put_lines,
 };
 use rules::Reason;
 use std::io::Write;
-use verify::{FileFault, MethodVerdict, Verdict};
+use verify::{FileFault, FinalRule, MethodVerdict, Verdict};
 
 /// The refusal of the file that is to be verified, as an object of JSON, and then the text after its fields.
 #[derive(Clone, Copy)]
@@ -214,19 +215,60 @@ impl<'a> Print for HierarchyRefusal<'a> {
     }
 }
 
-/// The refusal of a class whose superclass is final.
+/// A rule on final classes and methods: its number, and then the method that breaks it.
 #[derive(Clone, Copy)]
-pub struct FinalSuper(pub Form);
+pub struct FinalRuleText(pub FinalRule);
 
-impl Print for FinalSuper {
-    ghost text = { λ t. final_super_refusal t.0 };
+impl Print for FinalRuleText {
+    ghost text = { λ t. final_rule_text t.0 };
 
     fn put<W: Write>(&self, out: &mut W) -> Result<(), WriteFailed> {
         match self.0 {
-            Form::Plain => Word("class refused 81\n").put(out),
+            FinalRule::FinalSuper => Number(81_u64).put(out),
+            FinalRule::FinalOverridden { method } => {
+                Then(Number(85_u64), Place::Method(method)).put(out)
+            }
+        }
+    }
+}
+
+/// A rule on final classes and methods as fields of an object, and then the text after them.
+#[derive(Clone, Copy)]
+pub struct FinalRuleFields<B>(pub FinalRule, pub B);
+
+impl<B: Print + Copy> Print for FinalRuleFields<B> {
+    ghost text = { λ t. fields_then (final_rule_fields t.0) (B.text t.1) };
+
+    fn put<W: Write>(&self, out: &mut W) -> Result<(), WriteFailed> {
+        match self.0 {
+            FinalRule::FinalSuper => More("number", Number(81_u64), self.1).put(out),
+            FinalRule::FinalOverridden { method } => {
+                let place = PlaceFields(Place::Method(method), self.1);
+                More("number", Number(85_u64), place).put(out)
+            }
+        }
+    }
+}
+
+/// The refusal of a class that breaks a rule on final classes and methods.
+#[derive(Clone, Copy)]
+pub struct FinalRefusal {
+    pub form: Form,
+    pub rule: FinalRule,
+}
+
+impl Print for FinalRefusal {
+    ghost text = { λ t. final_refusal t.form t.rule };
+
+    fn put<W: Write>(&self, out: &mut W) -> Result<(), WriteFailed> {
+        let rule = self.rule;
+        match self.form {
+            Form::Plain => {
+                let broken = Then(FinalRuleText(rule), Word("\n"));
+                Then(Word("class refused "), broken).put(out)
+            }
             Form::Json => {
-                let number = More("number", Number(81_u64), END);
-                let refused = More("answer", Quoted("refused"), number);
+                let refused = More("answer", Quoted("refused"), FinalRuleFields(rule, END));
                 Object("kind", Quoted("class"), refused).put(out)
             }
         }

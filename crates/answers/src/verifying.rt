@@ -7,7 +7,7 @@ ghost use Rattle.verify.specs.Files.{IsDecoded, IsFormed};
 ghost use Rattle.verify.specs.Among.{ReportsAmong};
 ghost use Rattle.answers.specs.Files.{file_view, files_view, read_view, reads_of, refusal_status, CountsKnown};
 ghost use Rattle.answers.specs.Answers.{Answered};
-ghost use Rattle.answers.specs.Verdicts.{VerifySays, class_object, class_refusal, known_object, known_refusal, file_object, IsExplained, IsExplainedObject, IsTold, report_status, explained};
+ghost use Rattle.answers.specs.Verdicts.{VerifySays, class_object, class_refusal, known_object, known_refusal, file_object, final_told, IsExplained, IsExplainedObject, IsTold, report_status, explained};
 ghost use Rattle.answers.specs.declared.fault.AnswerFault.TheVariants.{OutOfMemory};
 ghost use Rattle.answers.specs.Explanations.{explanations};
 ghost use Rattle.answers.specs.declared.manner.Manner.TheVariants as manners;
@@ -18,10 +18,10 @@ use crate::fault::AnswerFault;
 use crate::manner::Manner;
 use crate::reads::{InputFile, InputFiles, file_reads};
 use crate::refusal::Refusal;
-use crate::refusing::{FinalSuperTold, HierarchyTold};
+use crate::refusing::{FinalTold, HierarchyTold};
 use crate::sentences::{FileSentence, FileSentenceFields};
 use crate::telling::tell;
-use crate::verdicts::{ClassRefusal, FileObject, KnownRefusal, ReportText};
+use crate::verdicts::{ClassRefusal, FileObject, FinalRefusal, KnownRefusal, ReportText};
 use classfile::{ClassFile, Profile, decode_under, fault_part, one_class};
 use printing::{
     AttributeFields, AttributeLine, END, FilePartFields, FilePartLines, PartFields, PartLines,
@@ -31,7 +31,8 @@ use std::alloc::Global;
 use std::hash::BuildHasher;
 use std::io::Write;
 use verify::{
-    AmongFault, Explained, FileFault, class_file, explain_among_under, verify_among_under,
+    AmongFault, Explained, FileFault, FinalRule, class_file, explain_among_under,
+    verify_among_under,
 };
 
 /// The class file in a file; 1 where memory runs out. The file is known to be a class file.
@@ -139,7 +140,7 @@ fn explain_object<W: Write>(
 }
 
 /// Writes why the class that is to be verified is refused.
-fn refuse_class<W: Write>(
+pub fn refuse_class<W: Write>(
     alloc: Global,
     manner: Manner,
     file: InputFile<'_>,
@@ -195,6 +196,37 @@ fn refuse_known<W: Write>(
     }
 }
 
+/// Writes which rule on final classes and methods the class in a file breaks.
+pub fn refuse_final<W: Write>(
+    alloc: Global,
+    manner: Manner,
+    file: InputFile<'_>,
+    rule: FinalRule,
+    out: &mut W,
+) -> Result<u8, AnswerFault>
+    ensures { (c : Class) → IsFormed (read_view file.entry) c
+        → Answered (λ t s. (t ≡ final_told manner c rule) × (s ≡ 1)) (W.contents out.old) (W.contents out.new)
+        result }
+{
+    one_class();
+    if let Manner::Told(form) = manner {
+        return tell(&FinalRefusal { form, rule }, 1, out);
+    }
+    match class_file(alloc, file.as_read()) {
+        Ok(class) => {
+            let class = &class;
+            let text = FinalTold {
+                manner,
+                class,
+                rule,
+            };
+            tell(&text, 1, out)
+        }
+        // The file is a well-formed class, so only memory can have run out.
+        Err(_) => Err(AnswerFault::OutOfMemory),
+    }
+}
+
 /// Writes why there are no verdicts on the class in the first file, or which known file is refused.
 fn refuse<W: Write>(
     alloc: Global,
@@ -218,12 +250,12 @@ fn refuse<W: Write>(
             refuse_known(alloc, manner, number, file, fault, out)
         }
         AmongFault::NoHierarchy(fault) => tell(&HierarchyTold { manner, fault }, 1, out),
-        AmongFault::FinalSuper => tell(&FinalSuperTold(manner), 1, out),
+        AmongFault::Final(rule) => refuse_final(alloc, manner, file, rule, out),
     }
 }
 
 /// Writes the explanations of the methods of a class, by its file.
-fn explain<'a, W: Write>(
+pub fn explain<'a, W: Write>(
     alloc: Global,
     form: Form,
     file: InputFile<'a>,

@@ -29,6 +29,8 @@ pub mod FilesInPlay
 pub mod Walking
 pub mod Standings
 pub mod OneMore
+pub mod Openings
+pub mod Others
 pub mod verdicts
 pub mod numbered
 pub mod examples

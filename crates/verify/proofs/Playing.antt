@@ -61,6 +61,10 @@ none_met cs names none = record {
   all = λ name (j, d, lt, at, is). absurd (omega (arith, lt));
 }
 
+-- a name that was not met before is that of no class before
+pub not_met : (cs : List JudgedClass) (i : ℕ) (old : MetNames) {own name : List ℕ} → own ≡ name → AreMet cs i old → (new : MetNames) (before : Bool) → Meets old new own before → before ≡ false → HasEarlier cs i name → ⊥
+not_met cs i old same met new before step none early = true_false (sym (met.all _ early) ∙ ap (is_met old) (sym same) ∙ sym step.told ∙ none)
+
 pub one_more_met : (cs : List JudgedClass) (i : ℕ) (c : JudgedClass) (old new : MetNames) (before : Bool) → slice_get cs i ≡ Some c → AreMet cs i old → Meets old new (summary_of c.file).name before → AreMet cs (i + 1) new
 one_more_met cs i c old new before here met step = record { only = only; all = all }
   where

@@ -19,7 +19,7 @@ use Rattle.verify.specs.Standing.{is_root, onward, next, ahead, stands}
 use Rattle.verify.specs.Each.{with_class}
 use Rattle.verify.specs.private.EachSteps.{place_kept, ArePlaced, next_place, class_at, LeadsAhead}
 
-abbrev Places : Type 0
+abbrev pub Places : Type 0
 Places = BTreeMap (Bor (List ℕ)) ℕ
 
 -- ---- chains
@@ -151,18 +151,21 @@ module _ (items : List Summary) (stand : List Bool) (which : stand ≡ map (stan
       ap (λ fs. fs ++ cond b (fact_of class ∷ []) []) so ∙ sym (one_more_stands all (take n all) (fact_of class) b (same_some flag told))
       ∙ ap (filter (stands all)) (sym (take_one_more all n (fact_of class) here))
 
+-- a name is kept where a class has it
+pub known_name : (classes : List ClassFact) (places : Places) → ArePlaced classes places → (name : List ℕ) → is_some (place_kept places name) ≡ is_some (class_of classes name)
+known_name classes places placed name = by (place_kept places name) refl
+  where
+    by : (o : Option ℕ) → place_kept places name ≡ o → is_some o ≡ is_some (class_of classes name)
+    by None e = ap is_some (sym (ap (class_at classes) e) ∙ at_kept classes places placed name)
+    by (Some i) e =
+        let (d, there, named) = placed.leads name i e in
+        ap is_some (sym there ∙ sym (ap (class_at classes) e) ∙ at_kept classes places placed name)
+
 -- ---- a class more
 
 module _ (classes : List ClassFact) (places : Places) (placed : ArePlaced classes places) (c : ClassFact) where
-  -- a name is kept where a class has it
-  pub kept_known : is_some (place_kept places c.name) ≡ is_some (class_of classes c.name)
-  kept_known = by (place_kept places c.name) refl
-    where
-      by : (o : Option ℕ) → place_kept places c.name ≡ o → is_some o ≡ is_some (class_of classes c.name)
-      by None e = ap is_some (sym (ap (class_at classes) e) ∙ at_kept classes places placed c.name)
-      by (Some i) e =
-          let (d, there, named) = placed.leads c.name i e in
-          ap is_some (sym there ∙ sym (ap (class_at classes) e) ∙ at_kept classes places placed c.name)
+  kept_known : is_some (place_kept places c.name) ≡ is_some (class_of classes c.name)
+  kept_known = known_name classes places placed c.name
 
   pub with_same : is_some (place_kept places c.name) ≡ true → classes ≡ with_class classes c
   with_same e = ap (λ b. cond b classes (classes ++ c ∷ [])) (sym e ∙ kept_known)

@@ -1,5 +1,5 @@
 -- The report on a class among the classes that it may refer to, or its fault (JVMS 4.10.1).
-use Rattle.std.specs.Prelude.{◌≡◌, ◌≢◌, ℕ, true, false, ◌+◌, List, ◌∷◌, map, Result, Ok, Err}
+use Rattle.std.specs.Prelude.{◌≡◌, ◌≢◌, ℕ, true, ◌+◌, List, ◌∷◌, map, Some, None, Result, Ok, Err}
 use Rattle.classfile.specs.Values.{Class}
 use Rattle.classfile.specs.Methods.{JudgedClass}
 use Rattle.classfile.specs.CodeMethods.{judged}
@@ -12,20 +12,20 @@ use Rattle.hierarchy.specs.ClassSummary.{summary_of}
 use Rattle.verify.specs.declared.report.Report.{Report}
 use Rattle.verify.specs.declared.explanation.Explained.{Explained}
 use Rattle.verify.specs.declared.known_classes.AmongFault.{AmongFault}
-use Rattle.verify.specs.declared.known_classes.AmongFault.TheVariants.{OutOfMemory, Refused, KnownRefused, NoHierarchy, FinalSuper}
+use Rattle.verify.specs.declared.known_classes.AmongFault.TheVariants.{OutOfMemory, Refused, KnownRefused, NoHierarchy, Final}
 use Rattle.verify.specs.Files.{Read, IsFormed, IsRefused, AreFormed, IsFirstRefused}
 use Rattle.verify.specs.Reports.{IsReport}
 use Rattle.verify.specs.Explaining.{IsExplained}
-use Rattle.verify.specs.FinalSuper.{has_final_super}
+use Rattle.verify.specs.FinalRules.{final_rule}
 
 -- The first of these that applies: the class is refused; a known one is, by its number from 1 on, the first of those
--- that are; they are no hierarchy; the superclass of the class is final; and otherwise what is returned of the class in
--- the hierarchy, by a profile.
+-- that are; they are no hierarchy; the class breaks a rule on final classes and methods; and otherwise what is returned
+-- of the class in the hierarchy, by a profile.
 abbrev pub AnswersAmong : {R : Type 0} → (List ClassFact → JudgedClass → R → Type 0) → Profile → Read → List Read
     → Result R AmongFault → Type 0
 AnswersAmong IsAnswer profile read known (Ok x) =
     (c : Class) × (cs : List Class) × IsFormed read c × AreFormed known cs
-    × IsHierarchy (map summary_of (c ∷ cs)) × (has_final_super (map summary_of (c ∷ cs)) (summary_of c) ≡ false)
+    × IsHierarchy (map summary_of (c ∷ cs)) × (final_rule (map summary_of (c ∷ cs)) (summary_of c) ≡ None)
     × IsAnswer (map summary_of (c ∷ cs)) (judged profile c) x
 AnswersAmong IsAnswer profile read known (Err OutOfMemory) = Unit {0}
 AnswersAmong IsAnswer profile read known (Err (Refused fault)) = IsRefused read fault
@@ -34,9 +34,9 @@ AnswersAmong IsAnswer profile read known (Err (KnownRefused number fault)) =
 AnswersAmong IsAnswer profile read known (Err (NoHierarchy fault)) =
     (c : Class) × (cs : List Class) × IsFormed read c × AreFormed known cs
     × (fault ≢ hierarchies.OutOfMemory) × FaultOf (map summary_of (c ∷ cs)) fault
-AnswersAmong IsAnswer profile read known (Err FinalSuper) =
+AnswersAmong IsAnswer profile read known (Err (Final rule)) =
     (c : Class) × (cs : List Class) × IsFormed read c × AreFormed known cs
-    × IsHierarchy (map summary_of (c ∷ cs)) × (has_final_super (map summary_of (c ∷ cs)) (summary_of c) ≡ true)
+    × IsHierarchy (map summary_of (c ∷ cs)) × (final_rule (map summary_of (c ∷ cs)) (summary_of c) ≡ Some rule)
 
 -- the verdicts on the methods of the class
 abbrev pub ReportsAmong : Profile → Read → List Read → Result Report AmongFault → Type 0

@@ -13,7 +13,7 @@ use Rattle.verify.specs.declared.report.Report.{Report}
 use Rattle.verify.specs.declared.report.ClassFault.{ClassFault}
 use Rattle.verify.specs.declared.report.ClassFault.TheVariants as classes
 use Rattle.verify.specs.declared.judgements.Judgement.{Judgement}
-use Rattle.verify.specs.declared.judgements.Judgement.TheVariants.{Reported, Refused, NotInHierarchy, FinalSuper}
+use Rattle.verify.specs.declared.judgements.Judgement.TheVariants.{Reported, Refused, NotInHierarchy, Final}
 use Rattle.verify.specs.declared.judgements.EachFault.{EachFault}
 use Rattle.verify.specs.declared.judgements.EachFault.TheVariants.{OutOfMemory, NoHierarchy}
 use Rattle.verify.specs.Files.{Read, IsFormed, IsRefused}
@@ -48,13 +48,14 @@ abbrev pub IsAnswered : Profile → List ClassFact → Read → List ℕ → Res
 IsAnswered profile hierarchy read name answer = (c : Class) × IsFormed read c × ((summary_of c).name ≡ name)
     × Reports hierarchy (judged profile c) answer
 
--- the answer about one file: the file is refused; or the hierarchy does not have its class (80), or has it with a final
--- superclass (81); or there are verdicts on its methods
+-- the answer about one file: the file is refused; or the hierarchy does not have its class (80); or the class breaks a
+-- rule on final classes and methods (81, 85); or there are verdicts on its methods
 abbrev pub IsJudged : Profile → List ClassFact → Read → Judgement → Type 0
 IsJudged profile hierarchy read (Refused fault) = IsRefused read fault
 IsJudged profile hierarchy read (NotInHierarchy name) =
     IsAnswered profile hierarchy read name.now (Err classes.NotInHierarchy)
-IsJudged profile hierarchy read (FinalSuper name) = IsAnswered profile hierarchy read name.now (Err classes.FinalSuper)
+IsJudged profile hierarchy read (Final name rule) =
+    IsAnswered profile hierarchy read name.now (Err (classes.Final rule))
 IsJudged profile hierarchy read (Reported name report) = IsAnswered profile hierarchy read name.now (Ok report)
 
 -- the answers about these files

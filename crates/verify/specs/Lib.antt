@@ -21,7 +21,7 @@ pub mod ClassMethods
 pub mod Refusals
 pub mod Breaks
 pub mod Listed
-pub mod FinalSuper
+pub mod FinalRules
 pub mod Answers
 pub mod Reports
 pub mod DifferencesAt
@@ -33,6 +33,7 @@ pub mod OneVerdict
 pub mod Files
 pub mod Explaining
 pub mod Among
+pub mod Beside
 pub mod Standing
 pub mod Each
 pub mod private

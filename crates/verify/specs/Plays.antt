@@ -1,6 +1,6 @@
--- Classes in play: the reports on them, or the first class of the list that breaks a rule, and the least number that it
+-- Classes in play: the reports on them, or the first class of the list that breaks a rule, and the first rule that it
 -- breaks.
-use Rattle.std.specs.Prelude.{◌≡◌, ℕ, ◌<◌, true, false, List, length, slice_get, Some}
+use Rattle.std.specs.Prelude.{◌≡◌, ℕ, ◌<◌, List, length, slice_get, Some, None}
 use Rattle.classfile.specs.Methods.{JudgedClass}
 use Rattle.hierarchy.specs.Class.{ClassFact}
 use Rattle.hierarchy.specs.ClassSummary.{summary_of}
@@ -9,13 +9,13 @@ use Rattle.verify.specs.declared.verdict.Verdict.TheVariants.{Verified, NoCode, 
 use Rattle.verify.specs.declared.report.MethodVerdict.{MethodVerdict}
 use Rattle.verify.specs.declared.report.Report.{Report}
 use Rattle.verify.specs.declared.play.PlayRule.{PlayRule}
-use Rattle.verify.specs.declared.play.PlayRule.TheVariants.{NotInHierarchy, FinalSuper, ClassInPlayTwice}
+use Rattle.verify.specs.declared.play.PlayRule.TheVariants.{NotInHierarchy, Final, ClassInPlayTwice}
 use Rattle.verify.specs.declared.play.PlayFault.{PlayFault}
 use Rattle.verify.specs.declared.play.PlayFault.TheVariants.{OutOfMemory, Broken, NotAllVerified}
 use Rattle.verify.specs.declared.play.PlayStop.{PlayStop}
 use Rattle.verify.specs.declared.play.PlayStop.TheVariants as stops
 use Rattle.verify.specs.Listed.{IsListed}
-use Rattle.verify.specs.FinalSuper.{has_final_super}
+use Rattle.verify.specs.FinalRules.{final_rule, final_rule_number}
 use Rattle.verify.specs.Reports.{IsReport}
 
 -- verified, or without code
@@ -45,22 +45,22 @@ IsFirstOfName play place c = HasEarlier play place (summary_of c.file).name → 
 pub record IsFine (classes : List ClassFact) (play : List JudgedClass) (place : ℕ) (c : JudgedClass)
     (rs : List MethodVerdict) : Type 0 where
   pub report : IsReport classes c rs
-  pub not_final : has_final_super classes (summary_of c.file) ≡ false
+  pub not_final : final_rule classes (summary_of c.file) ≡ None
   pub first : IsFirstOfName play place c
   pub verified : AreFineBelow rs (length rs)
 
 -- the first rule that the class breaks
 abbrev pub Breaks : List ClassFact → List JudgedClass → ℕ → JudgedClass → PlayRule → Type 0
 Breaks classes play place c NotInHierarchy = IsListed classes c.file → ⊥
-Breaks classes play place c FinalSuper = IsListed classes c.file × (has_final_super classes (summary_of c.file) ≡ true)
+Breaks classes play place c (Final rule) = IsListed classes c.file × (final_rule classes (summary_of c.file) ≡ Some rule)
 Breaks classes play place c ClassInPlayTwice =
-    IsListed classes c.file × (has_final_super classes (summary_of c.file) ≡ false)
+    IsListed classes c.file × (final_rule classes (summary_of c.file) ≡ None)
     × HasEarlier play place (summary_of c.file).name
 
 -- the class breaks none of these rules, and this is its first method that is refused
 abbrev pub HasRefused : List ClassFact → List JudgedClass → ℕ → JudgedClass → ℕ → MethodVerdict → Type 0
 HasRefused classes play place c n r =
-    (has_final_super classes (summary_of c.file) ≡ false) × IsFirstOfName play place c
+    (final_rule classes (summary_of c.file) ≡ None) × IsFirstOfName play place c
     × ((rs : List MethodVerdict) × IsReport classes c rs × IsFirstRefused rs n r)
 
 -- the first classes break no rule, and have these reports
@@ -97,7 +97,7 @@ IsStopped classes play (stops.Refused place number method) =
 
 abbrev pub rule_number : PlayRule → ℕ
 rule_number NotInHierarchy = 80
-rule_number FinalSuper = 81
+rule_number (Final rule) = final_rule_number rule
 rule_number ClassInPlayTwice = 83
 
 abbrev pub play_fault_number : PlayFault → ℕ

@@ -1,6 +1,6 @@
 -- The report on a class: of each method its name, its descriptor and its verdict, in the order of the file (JVMS
 -- 4.10.1).
-use Rattle.std.specs.Prelude.{◌≡◌, ℕ, true, false, List, length, slice_get, Some, Result, Ok, Err}
+use Rattle.std.specs.Prelude.{◌≡◌, ℕ, List, length, slice_get, Some, None, Result, Ok, Err}
 use Rattle.pool.specs.Lookups.{named}
 use Rattle.classfile.specs.Values.{Member, Class}
 use Rattle.classfile.specs.Methods.{JudgedClass}
@@ -16,10 +16,10 @@ use Rattle.verify.specs.declared.verdict.Verdict.TheVariants.{Verified}
 use Rattle.verify.specs.declared.report.MethodVerdict.{MethodVerdict}
 use Rattle.verify.specs.declared.report.Report.{Report}
 use Rattle.verify.specs.declared.report.ClassFault.{ClassFault}
-use Rattle.verify.specs.declared.report.ClassFault.TheVariants.{OutOfMemory, NoClass, Malformed, NotInHierarchy, FinalSuper}
+use Rattle.verify.specs.declared.report.ClassFault.TheVariants.{OutOfMemory, NoClass, Malformed, NotInHierarchy, Final}
 use Rattle.verify.specs.ClassMethods.{IsSafeIn}
 use Rattle.verify.specs.Listed.{IsListed}
-use Rattle.verify.specs.FinalSuper.{has_final_super}
+use Rattle.verify.specs.FinalRules.{final_rule}
 use Rattle.verify.specs.Answers.{Answers, VerifiesTypeSafe}
 
 -- this is the method of this number, with the verdict on it
@@ -40,13 +40,13 @@ pub record IsReport (classes : List ClassFact) (c : JudgedClass) (rs : List Meth
   pub each : (number : ℕ) (r : MethodVerdict) → slice_get rs number ≡ Some r → IsReported classes c number r
 
 -- The answer about a class that is well formed, by the first of these that holds: the hierarchy does not have it as it
--- is (80); its superclass is final there (81); and otherwise there is a report.
+-- is (80); it breaks a rule on final classes and methods there (81, 85); and otherwise there is a report.
 abbrev pub Reports : List ClassFact → JudgedClass → Result Report ClassFault → Type 0
-Reports classes c (Ok report) = (has_final_super classes (summary_of c.file) ≡ false)
+Reports classes c (Ok report) = (final_rule classes (summary_of c.file) ≡ None)
     × IsReport classes c report.methods.items
 Reports classes c (Err OutOfMemory) = Unit {0}
 Reports classes c (Err NotInHierarchy) = IsListed classes c.file → ⊥
-Reports classes c (Err FinalSuper) = IsListed classes c.file × (has_final_super classes (summary_of c.file) ≡ true)
+Reports classes c (Err (Final rule)) = IsListed classes c.file × (final_rule classes (summary_of c.file) ≡ Some rule)
 Reports classes c (Err (NoClass fault)) = ⊥
 Reports classes c (Err (Malformed rule place)) = ⊥
 

@@ -3,6 +3,7 @@ pub mod AmongSteps
 pub mod Catching
 pub mod EachSteps
 pub mod FileSteps
+pub mod OpeningSteps
 pub mod InTurn
 pub mod Judged
 pub mod JudgingSteps

@@ -36,7 +36,7 @@ pub enum TogetherFault<'a> {
     /// The classes are no hierarchy: 40 to 46.
     #[error("hierarchy refused {}", .0.number())]
     NoHierarchy(HierarchyFault<'a>),
-    /// The class of this number is the first that breaks a rule, and it breaks this one: 81.
+    /// The class of this number is the first that breaks a rule, and it breaks this one: 81 or 85.
     #[error("class {number} refused {}", rule.number())]
     Broken {
         number: usize,
@@ -243,7 +243,7 @@ fn reports_decoded<'a, S: BuildHasher + Drop>(
 ///
 /// The first of these refusals that holds is returned: a file is refused by its reading, by
 /// [`decode_under`](classfile::decode_under) or by [`form_check`](classfile::form_check), the first that is; [`Rows::new`] refuses
-/// the summaries (40 to 46); the superclass of a class is final (81) or one of its methods is refused, the first such
+/// the summaries (40 to 46); a class breaks a rule on final classes and methods (81, 85) or one of its methods is refused, the first such
 /// class, with the verdict on its first such method. 1 where memory ran out.
 pub fn verify_together<'a, S: BuildHasher + Drop>(
     alloc: Global,

@@ -2,7 +2,8 @@
 ghost use Rattle.std.specs.Prelude.{◌≡◌, Ok, MatchResult};
 ghost use Rattle.classfile.specs.Views.{class_view};
 ghost use Rattle.verify.specs.Files.{read_of, IsDecoded, IsFormed, OrMemory};
-ghost use Rattle.verify.specs.private.FileSteps.{Forms, Summarises};
+ghost use Rattle.verify.specs.Beside.{Summarises};
+ghost use Rattle.verify.specs.private.FileSteps.{Forms};
 
 use classfile::{
     ClassFile, FormFault, FormRule, Formed, Place, Versions, decode_under, form_check,
@@ -85,7 +86,8 @@ pub fn class_file<'a>(alloc: Global, read: FileRead<'a>) -> Result<ClassFile<'a>
     Ok(class)
 }
 
-/// The summary of the class in a file; or why the file is not a well-formed class.
+/// The summary of the class in a file, all of whose texts are parts of the file's bytes; or why the file is not a
+/// well-formed class, as [`class_file`] answers it.
 pub fn summary_in<'a>(alloc: Global, read: FileRead<'a>) -> Result<Summary<'a>, FileFault>
     ensures { Summarises (read_of read.entry) result }
 {

@@ -8,10 +8,13 @@ ghost use Rattle.verify.specs.Files.{Read, read_of, OrMemory};
 ghost use Rattle.verify.specs.Standing.{standing};
 ghost use Rattle.verify.specs.Each.{IsJudged, AreJudged, JudgesEach, JudgesNone};
 ghost use Rattle.verify.specs.private.EachSteps.{IsNone};
+ghost use Rattle.verify.specs.private.OpeningSteps.{AreOpened, IsOpened};
 ghost use Rattle.verify.specs.declared.judgements.EachFault.TheVariants.{OutOfMemory};
 
-use crate::files::{FileFault, FileRead, class_in, formed};
+use crate::files::{FileFault, FileRead};
+use crate::final_rules::FinalRule;
 use crate::gathering::Gathered;
+use crate::opening::{Opened, decode_each, open_each};
 use crate::report::{ClassFault, Report, verify_by_numbers};
 use crate::standing::standing;
 use classfile::Profile;
@@ -30,8 +33,8 @@ pub enum Judgement<'a> {
     Refused(FileFault),
     /// 80: the hierarchy has no class with exactly the summary of this one.
     NotInHierarchy { name: &'a [u8] },
-    /// 81: the superclass is final in the hierarchy.
-    FinalSuper { name: &'a [u8] },
+    /// 81 or 85: the class breaks a rule on final classes and methods.
+    Final { name: &'a [u8], rule: FinalRule },
 }
 
 /// Why nothing is returned.
@@ -83,26 +86,23 @@ fn refused<'a>(fault: FileFault) -> Result<Judgement<'a>, EachFault<'a>>
 fn judge<'a, C: Classes>(
     alloc: Global,
     profile: Profile,
-    file: FileRead<'a>,
+    file: &Opened<'_, 'a>,
     numbers: &mut TypeNumbers<'_, 'a, C>,
 ) -> Result<Judgement<'a>, EachFault<'a>>
     ensures same { numbers.new.classes ≡ numbers.old.classes }
-    ensures judged { IfOk result (IsJudged profile numbers.old.classes (read_of file.entry)) }
+    ensures judged { IfOk result (λ j. (read : Read) → IsOpened read file.now
+        → IsJudged profile numbers.old.classes read j) }
     ensures memory { IfErr result (λ e. e ≡ OutOfMemory) }
 {
-    let class = match class_in(alloc, file) {
-        Ok(class) => class,
-        Err(fault) => return refused(fault),
-    };
-    let formed = match formed(alloc, &class) {
+    let formed = match file {
         Ok(formed) => formed,
-        Err(fault) => return refused(fault),
+        Err(fault) => return refused(*fault),
     };
-    let name = name_of(&formed);
+    let name = name_of(formed);
     match verify_by_numbers(alloc, &formed.under(profile), numbers) {
         Ok(report) => Ok(Judgement::Reported { name, report }),
         Err(ClassFault::NotInHierarchy) => Ok(Judgement::NotInHierarchy { name }),
-        Err(ClassFault::FinalSuper) => Ok(Judgement::FinalSuper { name }),
+        Err(ClassFault::Final(rule)) => Ok(Judgement::Final { name, rule }),
         Err(ClassFault::OutOfMemory) => Err(EachFault::OutOfMemory),
         Err(ClassFault::NoClass(_) | ClassFault::Malformed { .. }) => unreachable!(),
     }
@@ -113,16 +113,17 @@ fn judge<'a, C: Classes>(
 fn judge_all<'a, C: Classes>(
     alloc: Global,
     profile: Profile,
-    files: &[FileRead<'a>],
+    files: &[Opened<'_, 'a>],
     classes: &C,
 ) -> Result<Vec<Judgement<'a>>, EachFault<'a>>
-    ensures judged { IfOk result (λ js. AreJudged profile (C.content classes.now) (map read_of files.now) js.items) }
+    ensures judged { IfOk result (λ js. (reads : List Read) → AreOpened reads files.now
+        → AreJudged profile (C.content classes.now) reads js.items) }
     ensures memory { IfErr result (λ e. e ≡ OutOfMemory) }
 {
     let mut judgements = Vec::with_capacity(alloc, files.len())?;
     let mut numbers = TypeNumbers::new(alloc, classes);
     for file in files {
-        judgements.push(judge(alloc, profile, *file, &mut numbers)?)?;
+        judgements.push(judge(alloc, profile, file, &mut numbers)?)?;
     }
     Ok(judgements)
 }
@@ -132,13 +133,14 @@ fn judge_all<'a, C: Classes>(
 fn judge_among<'a, S: BuildHasher + Drop>(
     alloc: Global,
     profile: Profile,
-    files: &[FileRead<'a>],
+    files: &[Opened<'_, 'a>],
     names: &[&[u8]],
     classes: &[Summary<'a>],
     hasher: S,
 ) -> Result<Vec<Judgement<'a>>, EachFault<'a>>
-    ensures { MatchResult result (λ js. IsHierarchy (facts_of classes.now)
-        × AreJudged profile (facts_of classes.now) (map read_of files.now) js.items) (IsNone (facts_of classes.now)) }
+    ensures { MatchResult result (λ js. IsHierarchy (facts_of classes.now) × ((reads : List Read)
+        → AreOpened reads files.now → AreJudged profile (facts_of classes.now) reads js.items))
+        (IsNone (facts_of classes.now)) }
 {
     let rows = match Rows::new(alloc, classes, hasher) {
         Ok(rows) => rows,
@@ -170,10 +172,12 @@ pub fn verify_each<'a, S: BuildHasher + Drop>(
     ensures { MatchResult result (λ js. JudgesEach profile (map read_of files.now) (map read_of known.now) js.items)
         (JudgesNone (map read_of files.now) (map read_of known.now)) }
 {
+    let decoded = decode_each(alloc, files)?;
+    let opened = open_each(alloc, &decoded)?;
     let mut gathered = Gathered::new(alloc);
-    gathered.add_files(alloc, files)?;
+    gathered.add_opened(alloc, &opened)?;
     let names = names_of(alloc, &gathered.classes)?;
     gathered.add_files(alloc, known)?;
     let classes = standing(alloc, gathered)?;
-    judge_among(alloc, profile, files, &names, &classes, hasher)
+    judge_among(alloc, profile, &opened, &names, &classes, hasher)
 }

@@ -13,7 +13,7 @@ ghost use Rattle.verify.specs.declared.known_classes.AmongFault.TheVariants.{Out
 
 use crate::explanation::{Explained, explain_listed};
 use crate::files::{FileFault, FileRead, class_in, formed, summary_in};
-use crate::final_super::has_final_super;
+use crate::final_rules::{FinalRule, final_rule};
 use crate::report::Report;
 use classfile::{Formed, Profile};
 use hierarchy::{HierarchyFault, Rows, Summary, summary_of};
@@ -38,9 +38,9 @@ pub enum AmongFault<'a> {
     /// The class and the known ones are no hierarchy: 40 to 46.
     #[error("hierarchy refused {}", .0.number())]
     NoHierarchy(HierarchyFault<'a>),
-    /// 81: the superclass of the class is final.
-    #[error("class refused 81")]
-    FinalSuper,
+    /// 81 or 85: the class breaks a rule on final classes and methods.
+    #[error("class refused {}", .0.number())]
+    Final(FinalRule),
 }
 
 /// The fault of a known class of this number that is refused.
@@ -76,8 +76,8 @@ fn add_known<'a>(
 }
 
 /// The verdicts on the methods of the class whose summary is the first of these, and the frames where they are asked
-/// for; or why the classes are no hierarchy; or 81.
-fn explain_in<'a, S: BuildHasher + Drop>(
+/// for; or why the classes are no hierarchy; or 81 or 85.
+pub fn explain_in<'a, S: BuildHasher + Drop>(
     alloc: Global,
     formed: &Formed<'_, 'a>,
     summaries: &[Summary<'a>],
@@ -92,8 +92,8 @@ fn explain_in<'a, S: BuildHasher + Drop>(
         Err(HierarchyFault::OutOfMemory) => return Err(AmongFault::OutOfMemory),
         Err(fault) => return Err(AmongFault::NoHierarchy(fault)),
     };
-    if has_final_super(&summaries[0], &classes) {
-        return Err(AmongFault::FinalSuper);
+    if let Some(rule) = final_rule(alloc, &summaries[0], &classes)? {
+        return Err(AmongFault::Final(rule));
     }
     let mut numbers = TypeNumbers::new(alloc, &classes);
     match explain_listed(alloc, formed, framed, &mut numbers) {
@@ -125,7 +125,7 @@ fn explain_formed<'a, S: BuildHasher + Drop>(
 /// The first of these refusals that holds is returned: the class is refused by its reading, by
 /// [`decode_under`](classfile::decode_under) or by [`form_check`](classfile::form_check); one of the known files is refused in this
 /// way, the first that is; [`Rows::new`] refuses their summaries, of which the class's own is the first (40 to 46); the
-/// superclass of the class is final (81). 1 where memory ran out.
+/// superclass of the class is final (81); a method of it overrides a final one (85). 1 where memory ran out.
 pub fn verify_among<'a, S: BuildHasher + Drop>(
     alloc: Global,
     class: FileRead<'a>,
@@ -192,7 +192,7 @@ pub fn explain_among_under<'a, S: BuildHasher + Drop>(
 }
 
 /// The fault of the class itself where it is refused.
-fn refused<'a>(fault: FileFault) -> AmongFault<'a>
+pub fn refused<'a>(fault: FileFault) -> AmongFault<'a>
     ensures { (framed : Bool) (profile : ProfileFact) (read : Read) (known : List Read) → OrMemory read fault
         → AnswersAmong (IsExplained framed) profile read known (Err result) }
 {

@@ -5,7 +5,7 @@
 //!
 //! - `method`: the verdict on a method, step by step; `verdict`: its type; `refusal`: verdicts that refuse.
 //! - `report`: the verdicts on the methods of a class.
-//! - `final_super`: whether the superclass of a class is final; `listing`: whether a hierarchy has a class as it is.
+//! - `final_rules`: the rules on final classes and methods; `listing`: whether a hierarchy has a class as it is.
 //! - `play`: the reports on classes whose methods may call each other.
 //! - `explanation`: a report, with the frames at the instructions at which methods are refused; `frames_at`: these
 //!   frames, by one walk once more over the code; `detail`: what is wrong there, by the reason; `difference_at`: how a
@@ -16,8 +16,9 @@
 //!
 //! Files:
 //!
-//! - `files`: from a file as it was read to a class that is well formed.
+//! - `files`: from a file as it was read to a class that is well formed; `opening`: many files, each opened once.
 //! - `known_classes`: a class among its known classes; `classes_in_play`: classes in play.
+//! - `known_summaries`: a class among classes that are known by their summaries.
 //! - `judgements`: the classes of many files, each judged among all; `gathering`: the classes in files, the first of
 //!   each name; `standing`: which of these stand.
 //!
@@ -44,16 +45,18 @@ mod environment;
 mod exceptions;
 mod explanation;
 mod files;
-mod final_super;
+mod final_rules;
 mod flow;
 mod frames_at;
 mod gathering;
 mod initial;
 mod judgements;
 mod known_classes;
+mod known_summaries;
 mod laws;
 mod listing;
 mod method;
+mod opening;
 mod pass;
 mod play;
 mod refusal;
@@ -70,10 +73,12 @@ pub use detail::Detail;
 pub use difference_at::DifferenceAt;
 pub use environment::Env;
 pub use explanation::Explained;
-pub use files::{FileFault, FileRead, class_file};
+pub use files::{FileFault, FileRead, class_file, summary_in};
+pub use final_rules::FinalRule;
 pub use frames_at::FramesAt;
 pub use judgements::{EachFault, Judgement, verify_each};
 pub use known_classes::{AmongFault, explain_among_under, verify_among, verify_among_under};
+pub use known_summaries::{KnownSummaries, explain_beside};
 pub use laws::{
     class_run_breadth, details_are_told, fits_breadth, frames_are_judged, heap_run_breadth,
     map_details_are_told, map_refused_where, member_words_are_said, methods_are_seen, one_frames,

@@ -8,7 +8,7 @@ ghost use Rattle.verify.specs.Plays.{IsFineVerdict, IsFirstRefused, AreFineBelow
 ghost use Rattle.verify.specs.private.PlaySteps.{AreMet, Judges};
 ghost use Rattle.verify.specs.ClassRunSafety.{ArePlayable};
 
-use crate::final_super::has_final_super;
+use crate::final_rules::{FinalRule, final_rule};
 use crate::listing::has_summary;
 use crate::report::{MethodVerdict, Report, report_listed};
 use crate::verdict::Verdict;
@@ -24,8 +24,8 @@ use type_numbers::TypeNumbers;
 pub enum PlayRule {
     /// 80: the hierarchy has no class with exactly the summary of this one.
     NotInHierarchy,
-    /// 81: the superclass is final in the hierarchy.
-    FinalSuper,
+    /// 81 or 85: the class breaks a rule on final classes and methods.
+    Final(FinalRule),
     /// 83: an earlier class in play has this name.
     ClassInPlayTwice,
 }
@@ -36,7 +36,7 @@ pub enum PlayFault {
     /// 1: memory ran out.
     #[error("refused 1")]
     OutOfMemory,
-    /// 80, 81 or 83: the class of this number is the first with a fault, and this is the first rule that it breaks.
+    /// 80, 81, 83 or 85: the class of this number is the first with a fault, and this is the first rule that it breaks.
     /// Classes count from 0.
     #[error("refused {}", rule.number())]
     Broken { class: usize, rule: PlayRule },
@@ -71,7 +71,7 @@ impl PlayRule {
     {
         match self {
             PlayRule::NotInHierarchy => 80,
-            PlayRule::FinalSuper => 81,
+            PlayRule::Final(rule) => rule.number(),
             PlayRule::ClassInPlayTwice => 83,
         }
     }
@@ -153,8 +153,8 @@ fn judge<'a, C: Classes>(
         let rule = PlayRule::NotInHierarchy;
         return Err(PlayStop::Broken { class, rule });
     }
-    if has_final_super(&summary, classes) {
-        let rule = PlayRule::FinalSuper;
+    if let Some(rule) = final_rule(alloc, &summary, classes)? {
+        let rule = PlayRule::Final(rule);
         return Err(PlayStop::Broken { class, rule });
     }
     if names.meet(summary.name, class)? {
@@ -239,7 +239,7 @@ fn fault_of(stop: PlayStop<'_>) -> PlayFault
 /// are in the order of the list, and each method that has code is verified, by the profile of its class (see
 /// [`Formed::under`]).
 ///
-/// The first class that breaks a rule is refused, with the least number: 80 and 81 as by
+/// The first class that breaks a rule is refused, by the first of these: 80, 81 and 85 as by
 /// [`verify_methods`](crate::verify_methods), 83 where an earlier class has its name, 84 where one of its methods is
 /// refused. 1 where memory ran out.
 ///

@@ -10,7 +10,7 @@ ghost use Rattle.verify.specs.private.pass.ClassTypes.{AreClassTypes};
 ghost use Rattle.verify.specs.Reports.{IsReported, IsReport, Reports, ReportsBytes};
 
 use crate::explanation::{Explained, explain_listed};
-use crate::final_super::has_final_super;
+use crate::final_rules::{FinalRule, final_rule};
 use crate::listing::has_summary;
 use crate::method::verify_listed;
 use crate::pass::ClassTypes;
@@ -58,9 +58,9 @@ pub enum ClassFault {
     /// 80: the hierarchy has no class with exactly the summary of this one.
     #[error("refused 80")]
     NotInHierarchy,
-    /// 81: the superclass is final in the hierarchy.
-    #[error("refused 81")]
-    FinalSuper,
+    /// 81 or 85: the class breaks a rule on final classes and methods.
+    #[error("refused {}", .0.number())]
+    Final(FinalRule),
 }
 
 impl From<AllocError> for ClassFault {
@@ -141,8 +141,8 @@ pub fn verify_by_numbers<'a, C: Classes>(
     if !has_summary(alloc, &summary, classes)? {
         return Err(ClassFault::NotInHierarchy);
     }
-    if has_final_super(&summary, classes) {
-        return Err(ClassFault::FinalSuper);
+    if let Some(rule) = final_rule(alloc, &summary, classes)? {
+        return Err(ClassFault::Final(rule));
     }
     match report_listed(alloc, formed, numbers) {
         Ok(report) => Ok(report),
@@ -153,7 +153,7 @@ pub fn verify_by_numbers<'a, C: Classes>(
 /// The verdicts on the methods of a class that is well formed, by its profile (see [`Formed::under`]), in a hierarchy
 /// and in the order of the file (JVMS 4.10.1), each as [`verify_method`](crate::verify_method) answers it. 80 where the
 /// hierarchy does not have this class as it is, which is looked up once; otherwise 81 where the superclass is final
-/// there; or 1, where memory ran out.
+/// there, or 85 where a method overrides a final one; or 1, where memory ran out.
 pub fn verify_methods<'a, C: Classes>(
     alloc: Global,
     formed: &Formed<'_, 'a>,
@@ -166,7 +166,8 @@ pub fn verify_methods<'a, C: Classes>(
 }
 
 /// The verdicts on the methods of the class in these bytes, in a hierarchy (JVMS 4.10.1). The first of these refusals
-/// that holds is returned: that of [`classfile::decode`], that of [`form_check`], 80, or 81; or 1, where memory ran out.
+/// that holds is returned: that of [`classfile::decode`], that of [`form_check`], 80, 81, or 85; or 1, where memory ran
+/// out.
 pub fn verify_class<'a, C: Classes>(
     alloc: Global,
     bytes: &'a [u8],

@@ -118,7 +118,7 @@ fn are_roots(
 }
 
 /// Which of the classes stand.
-fn flags(alloc: Global, gathered: &Gathered<'_>) -> Result<Vec<bool>, AllocError>
+pub fn flags(alloc: Global, gathered: &Gathered<'_>) -> Result<Vec<bool>, AllocError>
     requires { ArePlaced (facts_of gathered.now.classes.items) gathered.now.places }
     ensures { IfOk result (λ stand. stand.items
         ≡ map (stands (facts_of gathered.now.classes.items)) (facts_of gathered.now.classes.items)) }

@@ -1,5 +1,5 @@
 -- Objects on which members are used, by their numbers.
-use Rattle.std.proofs.Common.{◌≡◌, ◌∙◌, ℕ, Bool, zero, suc, true, false, ◌&&◌, if◌then◌else◌, List, [], ◌∷◌, ◌++◌, Option, Some, None, option_map, drop, slice_get, refl, sym, ap, subst}
+use Rattle.std.proofs.Common.{◌≡◌, ◌∙◌, ℕ, Bool, zero, suc, true, false, ◌&&◌, if◌then◌else◌, List, [], ◌∷◌, ◌++◌, Option, Some, None, option_map, drop, length, slice_get, refl, sym, ap, subst}
 use Rattle.std.specs.Option.{option_and_then, option_map_or}
 use Rattle.names.specs.Descriptors.{FieldDescriptor}
 use Rattle.names.specs.ReferenceTypes.{ReferenceType, class_type, array_type}
@@ -23,10 +23,14 @@ use Rattle.rules.specs.After.{top_of}
 use Rattle.rules.specs.Bodies.{method_view}
 use Rattle.rules.specs.Guards.{IsReference, Surroundings, Uses, field, method, own_name}
 use Rattle.rules.specs.declared.protected_members.Use as uses
-use Rattle.rules.specs.Constants.{is_init_name}
+use Rattle.rules.specs.Constants.{constructor_call, invoke_special, is_init_name, special_call}
+use Rattle.rules.specs.Rules.{constructs_own}
+use Rattle.rules.specs.Table.{typing_rule}
+use Rattle.rules.specs.TypingRules.{TypingRule, arguments_on, constructs, where_allowed}
+use Rattle.rules.proofs.Made.{beneath_arguments, beneath_drops}
 use Rattle.rules.specs.Interfaces.{calls_indirect}
 use Rattle.rules.specs.ReasonNumbers.{not_direct_interface}
-use Rattle.frames.specs.Conditions.{reason}
+use Rattle.frames.specs.Conditions.{least, reason}
 use Rattle.rules.specs.Protected.{Use, constructor_use, field_use, method_reference, method_use, member_conditions, object_answer, object_beneath, object_conditions, use_conditions, used_by}
 use Rattle.verify.specs.private.pass.Objects.{is_array_type, used_index, AnswersUse, UsesGuarded}
 
@@ -172,3 +176,41 @@ answers_use around body a i same there b answer u e =
 pub guarded_by : (classes : List ClassFact) (m : Method Act) (a : Act) → AnswersUse classes m a true → (u : Option uses.Use) → Uses m a u → UsesGuarded classes m a u
 guarded_by classes m a guarded None none = λ u e. absurd (cc)
 guarded_by classes m a guarded (Some u) is = (is, guarded is.member is.used)
+
+-- ---- a constructor on the own object
+
+module _ (classes : List ClassFact) (m : Method Act) (f : FrameFact) where
+  own_use : (u : Use) → is_uninit_this (object_beneath u f) ≡ true → least (use_conditions classes m f u) ≡ None
+  own_use u own = by (is_guarded classes m.class u.reference)
+    where
+      by : (b : Bool) → least (if b then object_conditions (object_answer classes m.class (object_beneath u f)) else []) ≡ None
+      by true = subst (λ o. least (object_conditions o) ≡ None) (own_answer classes m.class (object_beneath u f) own) refl
+      by false = refl
+
+  own_allowed : (b : Bool) (r : TypingRule) → constructs_own (where_allowed b r) f ≡ true → constructs_own r f ≡ true
+  own_allowed true r e = e
+  own_allowed false r e = cc
+
+  own_called : (c : MethodConstant) (t : ReferenceType) (interface : Bool) → constructs_own (constructor_call c t) f ≡ true → least (option_map_or (use_conditions classes m f) (method_use c interface t) []) ≡ None
+  own_called c (class_type name) false e =
+      own_use (record { reference = method_reference name c; above = c.type.params })
+      (ap is_uninit_this (ap top_of (beneath_drops c.type.params f.stack ∙ beneath_arguments c.type.params (length c.type.params) f.stack refl)) ∙ own_allowed _ (constructs name (arguments_on c.type.params [])) e)
+  own_called c (class_type name) true e = refl
+  own_called c (array_type component) false e = refl
+  own_called c (array_type component) true e = refl
+
+  own_named : (c : MethodConstant) (init release : Bool) → constructs_own (if init then constructor_call c c.class else special_call m.major_version m.class c) f ≡ true
+      → least (option_map_or (use_conditions classes m f) (if release && init then method_use c c.interface c.class else None) []) ≡ None
+  own_named c true true e = own_called c c.class c.interface e
+  own_named c true false e = refl
+  own_named c false true e = refl
+  own_named c false false e = refl
+
+  -- its object is the one that the constructor makes ready, so no condition is asked
+  pub own_is_ready : (i : ℕ) (a : Act) → a ≡ acts.InvokeSpecial i → constructs_own (typing_rule m a) f ≡ true → least (option_map_or (use_conditions classes m f) (used_by m a) []) ≡ None
+  own_is_ready i a same own =
+      subst (λ x. least (option_map_or (use_conditions classes m f) (used_by m x) []) ≡ None) (sym same) (by (method_at m.constant_pool i) (subst (λ x. constructs_own (typing_rule m x) f ≡ true) same own))
+    where
+      by : (o : Option MethodConstant) → constructs_own (invoke_special m.major_version m.class o) f ≡ true → least (option_map_or (use_conditions classes m f) (option_and_then (constructor_use m.release) o) []) ≡ None
+      by None e = cc
+      by (Some c) e = own_named c (is_init_name c) m.release e

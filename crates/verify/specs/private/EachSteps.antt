@@ -23,6 +23,10 @@ pub record ArePlaced (classes : List ClassFact) (places : BTreeMap (Bor (List �
       × (slice_get classes i ≡ Some c) × (c.name ≡ name)
   pub each : (i : ℕ) (c : ClassFact) → slice_get classes i ≡ Some c → place_kept places c.name ≡ Some i
 
+-- places can be kept: no two of the classes have one name
+abbrev pub HavePlaces : List ClassFact → Type 0
+HavePlaces classes = (places : BTreeMap (Bor (List ℕ)) ℕ) × ArePlaced classes places
+
 -- the place with which a chain goes on
 abbrev pub next_place : BTreeMap (Bor (List ℕ)) ℕ → ClassFact → Option ℕ
 next_place places c = option_and_then (place_kept places) (onward c)

@@ -5,12 +5,8 @@ use Rattle.classfile.specs.declared.form.Formed.{Formed}
 use Rattle.classfile.specs.Values.{Class}
 use Rattle.classfile.specs.Views.{class_view}
 use Rattle.classfile.specs.WellFormed.{WellFormed, IsFirstFault}
-use Rattle.hierarchy.specs.declared.summary.Summary.{Summary}
-use Rattle.hierarchy.specs.ClassSummary.{summary_of}
-use Rattle.hierarchy.specs.Summary.{fact_of}
 use Rattle.verify.specs.declared.files.FileFault.{FileFault}
 use Rattle.verify.specs.declared.files.FileFault.TheVariants.{OutOfMemory, Malformed}
-use Rattle.verify.specs.Files.{Read, IsFormed, OrMemory}
 
 -- a class that is well formed, or the first rule that it breaks
 abbrev pub Forms : ClassFile → Result Formed FileFault → Type 0
@@ -18,8 +14,3 @@ Forms class (Ok formed) = (formed.class.now ≡ class) × WellFormed (class_view
 Forms class (Err OutOfMemory) = Unit {0}
 Forms class (Err (Malformed rule place)) = IsFirstFault (class_view class) rule place
 Forms class (Err fault) = ⊥
-
--- the summary of the class that a file is
-abbrev pub Summarises : Read → Result Summary FileFault → Type 0
-Summarises read (Ok summary) = (c : Class) × IsFormed read c × (fact_of summary ≡ summary_of c)
-Summarises read (Err fault) = OrMemory read fault

@@ -1,11 +1,12 @@
 //! The protected member that an instruction uses (JVMS 4.10.1.8), and whether it calls a constructor on the own object.
-ghost use Rattle.std.specs.Prelude.{◌≡◌, ◌&&◌, true, false, ℕ, List, [], drop, is_some, option_map, IfOk, IfSome};
+ghost use Rattle.std.specs.Prelude.{◌≡◌, ◌&&◌, true, false, ℕ, List, [], drop, is_some, option_map, None, IfOk, IfSome};
 ghost use Rattle.std.specs.Option.{option_map_or};
 ghost use Rattle.classfile.specs.Methods.{ExceptionEntry};
 ghost use Rattle.hierarchy.specs.Answer.{outcome_of};
 ghost use Rattle.hierarchy.specs.Nearest.{MemberReference, is_guarded};
 ghost use Rattle.insn.specs.OperandStacks.{beneath};
 ghost use Rattle.insn.specs.Views.{act_view};
+ghost use Rattle.frames.specs.Conditions.{least};
 ghost use Rattle.frames.specs.DeclaredFrames.{is_uninit_this};
 ghost use Rattle.frames.specs.VerificationType.{VerificationType, class as class_of, type_of};
 ghost use Rattle.method_frames.specs.NumberedFrames.{NumberedFrames};
@@ -209,8 +210,29 @@ fn check_interface<'a, C: Classes>(
     Ok(())
 }
 
+/// Whether an instruction calls a constructor on the own object. Then nothing is asked of the member that it uses,
+/// whether that is guarded or not. The only refusal: memory ran out.
+fn makes_own_ready<'a, C: Classes>(
+    method: &CodeMethod<'_, 'a>,
+    act: &Act<'a>,
+    constants: &mut ClassConstants<'_, '_, 'a, C>,
+    frames: &MethodFrames<'_, '_, 'a, C>,
+) -> Result<bool, AllocError>
+    requires { constants.old.members.class ≡ method.now.class.now }
+    ensures same { constants.new.members ≡ constants.old.members }
+    ensures ready { IfOk result (λ b. let m = method_view method.now in b ≡ true
+        → least (option_map_or (use_conditions frames.now.types.classes m (held frames.now))
+        (used_by m (act_view act.now)) []) ≡ None) }
+{
+    match act {
+        Act::InvokeSpecial { .. } => constructs_own(method, act, constants, frames),
+        _ => Ok(false),
+    }
+}
+
 /// 82 where an instruction uses a guarded member, unless the object is one of the class of this number, and 77 where a
-/// class is missing; or 1 where memory runs out.
+/// class is missing; or 1 where memory runs out. The own object is one, so a constructor that calls that of its
+/// superclass needs no look-up.
 fn check_use<'a, C: Classes>(
     method: &CodeMethod<'_, 'a>,
     act: &Act<'a>,
@@ -225,6 +247,9 @@ fn check_use<'a, C: Classes>(
     ensures judged { let m = method_view method.now in Judges (option_map_or
         (use_conditions frames.now.types.classes m (held frames.now)) (used_by m (act_view act.now)) []) result }
 {
+    if makes_own_ready(method, act, constants, frames)? {
+        return Ok(());
+    }
     match guarded_use(method, act, constants)? {
         None => Ok(()),
         Some(member) => {

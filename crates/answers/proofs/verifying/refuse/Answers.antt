@@ -1,8 +1,8 @@
 use Rattle.std.proofs.Common.{◌≡◌, ◌-◌, inl, inr, Err, Some, slice_get, subst, arith}
-use Rattle.verify.specs.declared.known_classes.AmongFault.TheVariants.{Refused, KnownRefused, NoHierarchy, FinalSuper}
+use Rattle.verify.specs.declared.known_classes.AmongFault.TheVariants.{Refused, KnownRefused, NoHierarchy, Final}
 use Rattle.verify.specs.Among.{ReportsAmong}
 use Rattle.answers.specs.Files.{file_view, files_view, read_view, reads_of, refusal_status}
-use Rattle.answers.specs.Verdicts.{class_object, class_refusal, known_object, known_refusal, hierarchy_told, final_super_told, IsTold, VerifySays}
+use Rattle.answers.specs.Verdicts.{class_object, class_refusal, known_object, known_refusal, hierarchy_told, final_told, IsTold, VerifySays}
 use Rattle.answers.proofs.Tellings.{answered_more}
 use Rattle.answers.proofs.verifying.refuse.Goals as goal
 
@@ -57,13 +57,14 @@ returns-in-NoHierarchy g c = λ profile told.
     (λ text status p. inr (class, formed, inr (cs, all, inl (fault, other, is, p.0, p.1))))
     (held c.args.out.now) (held c.tell.new.out) c.tell.result c.tell.ensures
 
-pub returns-in-FinalSuper : goal.returns-in-FinalSuper
-returns-in-FinalSuper g c = λ profile told.
+pub returns-in-Final : goal.returns-in-Final
+returns-in-Final g c = λ profile told.
     let held = g.W.Write.contents in
     let read = read_view c.args.file in
     let known = reads_of (files_view c.args.known) in
-    let why : ReportsAmong profile read known (Err FinalSuper) = subst (λ e. ReportsAmong profile read known (Err e)) c.in-FinalSuper.is told in
+    let rule = c.in-Final.rule in
+    let why : ReportsAmong profile read known (Err (Final rule)) = subst (λ e. ReportsAmong profile read known (Err e)) c.in-Final.is told in
     let (class, cs, formed, all, hierarchy, final) = why in
-    answered_more (λ t s. (t ≡ final_super_told c.args.manner) × (s ≡ 1)) (VerifySays c.args.manner profile (file_view c.args.file) (files_view c.args.known))
-    (λ text status p. inr (class, formed, inr (cs, all, inr (hierarchy, inl (final, p.0, p.1)))))
-    (held c.args.out.now) (held c.tell-in-FinalSuper.new.out) c.tell-in-FinalSuper.result c.tell-in-FinalSuper.ensures
+    answered_more (λ t s. (t ≡ final_told c.args.manner class rule) × (s ≡ 1)) (VerifySays c.args.manner profile (file_view c.args.file) (files_view c.args.known))
+    (λ text status p. inr (class, formed, inr (cs, all, inr (hierarchy, inl (rule, final, p.0, p.1)))))
+    (held c.args.out.now) (held c.refuse_final.new.out) c.refuse_final.result (c.refuse_final.ensures class formed)

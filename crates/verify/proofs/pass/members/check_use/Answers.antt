@@ -24,7 +24,7 @@ returns-in-None-clause-judged g c =
     let a = act_view c.args.act.now in
     let f = held c.args.frames.now in
     let classes = c.args.frames.now.types.classes in
-    let used = subst (λ (z : Surroundings). UsesGuarded z.classes m a c.in_ok-guarded_use.field-0) c.requires.constants c.in_ok-guarded_use.ensures.used in
+    let used = subst (λ (z : Surroundings). UsesGuarded z.classes m a c.in_ok-guarded_use.field-0) (c.in_ok-makes_own_ready.ensures.same ∙ c.requires.constants) c.in_ok-guarded_use.ensures.used in
     let free = subst (UsesGuarded classes m a) c.in-None.is used in
     subst (λ cs. Judges cs (Ok tt)) (sym (none_used classes m a f free)) (search rules)
 
@@ -35,7 +35,7 @@ returns-in-Some-clause-judged g c =
     let m = method_view c.args.method.now in
     let a = act_view c.args.act.now in
     let f = held c.args.frames.now in
-    let found = subst (λ (z : Surroundings). UsesGuarded z.classes m a c.in_ok-guarded_use.field-0) c.requires.constants c.in_ok-guarded_use.ensures.used in
+    let found = subst (λ (z : Surroundings). UsesGuarded z.classes m a c.in_ok-guarded_use.field-0) (c.in_ok-makes_own_ready.ensures.same ∙ c.requires.constants) c.in_ok-guarded_use.ensures.used in
     let (u, guarded) = subst (UsesGuarded classes m a) c.in-Some.is found in
     let n = c.item_beneath-object.result in
     let given = c.item_beneath-object.ensures.given in
@@ -47,3 +47,6 @@ returns-in-Some-clause-judged g c =
     judged classes m a f u.member c.check_object.result u.used guarded (outcome_of c.object_answer.result)
     (c.object_answer.ensures given.0 m.class object own ∙ ap (λ (z : Numbering). object_answer z.classes m.class given.0) c.types.ensures ∙ ap (object_answer classes m.class) there)
     c.check_object.ensures
+
+pub returns-then-branch-clause-judged : goal.returns-then-branch-clause-judged
+returns-then-branch-clause-judged g c = record { outcome = c.in_ok-makes_own_ready.ensures.ready c.if-branch.true }
