@@ -1,7 +1,7 @@
 -- Why the program ends with status 2.
 use Rattle.std.specs.Prelude.{ℕ, ◌≤◌}
 use Rattle.classck.specs.declared.ending.Ending.{Ending}
-use Rattle.classck.specs.declared.ending.Ending.TheVariants.{Line, NoText, Fault}
+use Rattle.classck.specs.declared.ending.Ending.TheVariants.{Line, NoText, Fault, Serving}
 use Rattle.command_line.specs.declared.fault.MainFault.TheVariants.{NoRandom, CannotOpen, Memory, NotWritten}
 use Rattle.answers.specs.declared.fault.AnswerFault.{AnswerFault}
 use Rattle.answers.specs.declared.fault.AnswerFault.TheVariants as answering
@@ -24,3 +24,4 @@ StopsReading count (Fault NoRandom) = ⊥
 StopsReading count (Fault (CannotOpen i)) = (1 ≤ i) × (i ≤ count)
 StopsReading count (Fault Memory) = Unit {0}
 StopsReading count (Fault NotWritten) = ⊥
+StopsReading count (Serving fault) = ⊥

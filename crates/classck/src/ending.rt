@@ -6,6 +6,7 @@ ghost use Rattle.classck.specs.Endings.{line_ending, answer_ending};
 
 use answers::AnswerFault;
 use command_line::{LineFault, MainFault, complaint};
+use serving::ServeFault;
 use std::alloc::{AllocError, AllocFailed};
 
 /// Why the program ends with status 2.
@@ -17,6 +18,8 @@ pub enum Ending {
     NoText,
     /// Something else went wrong.
     Fault(MainFault),
+    /// Not all messages were answered.
+    Serving(ServeFault),
 }
 
 impl Ending {
@@ -26,6 +29,7 @@ impl Ending {
             Ending::Line(error) => rt.eprint(error).is_ok(),
             Ending::NoText => rt.eprint(&"the line is no UTF-8\n").is_ok(),
             Ending::Fault(fault) => complaint(fault, &mut rt.stderr()).is_ok(),
+            Ending::Serving(fault) => serving::complaint(fault, &mut rt.stderr()).is_ok(),
         };
     }
 }

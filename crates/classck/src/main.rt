@@ -1,7 +1,7 @@
 //! `classck`: verifies Java class files by type checking.
 //!
 //! `main` reads the line (the library `command_line`), opens and reads the files (`reading`), answers (the library
-//! `answers`), and prints the answer, or why there is none (`ending`).
+//! `answers`, and for `serve` the library `serving`), and prints the answer, or why there is none (`ending`).
 #![tactic(auto)]
 
 mod ending;
@@ -9,10 +9,11 @@ mod reading;
 
 use crate::ending::Ending;
 use crate::reading::read_all;
-use answers::answer;
-use command_line::{MainFault, Request, request};
+use answers::{Command, answer};
+use command_line::{MainFault, Request, Task, request};
+use serving::{Peer, Setting, serve};
 use std::hash::RandomState;
-use std::io::{BufWriter, ErrorKind, Write};
+use std::io::{BufReader, BufWriter, ErrorKind, Write};
 use std::process::ExitCode;
 
 /// The request that the line makes.
@@ -32,20 +33,41 @@ fn asked(rt: &HostRuntime) -> Result<Request, Ending> {
     Ok(request(alloc, &texts)?)
 }
 
-/// The line, the random source, the files in the order of the line, and then the answer.
-fn run(rt: &HostRuntime) -> Result<u8, Ending> {
-    let request = asked(rt)?;
+/// The random source, the files in the order of the line, and then the answer about them.
+fn tell(rt: &HostRuntime, command: Command, files: &[String]) -> Result<u8, Ending> {
     let Ok(hasher) = RandomState::new(rt) else {
         return Err(Ending::Fault(MainFault::NoRandom));
     };
-    let reads = read_all(rt, &request.files)?;
+    let reads = read_all(rt, files)?;
     let Ok(mut out) = BufWriter::new(rt.alloc(), rt.stdout()) else {
         return Err(Ending::Fault(MainFault::Memory));
     };
-    let status = answer(rt.alloc(), request.command, &reads, hasher, &mut out)?;
+    let status = answer(rt.alloc(), command, &reads, hasher, &mut out)?;
     match out.flush() {
         Ok(()) => Ok(status),
         Err(_) => Err(Ending::Fault(MainFault::NotWritten)),
+    }
+}
+
+/// The known files, and then the answers to the messages on standard input, until that ends.
+fn serve_all(rt: &HostRuntime, setting: Setting, files: &[String]) -> Result<u8, Ending> {
+    let reads = read_all(rt, files)?;
+    let Ok(input) = BufReader::new(rt.alloc(), rt.stdin()) else {
+        return Err(Ending::Fault(MainFault::Memory));
+    };
+    let mut peer = Peer::new(input, rt.stdout());
+    match serve(rt.alloc(), setting, reads, rt, &mut peer) {
+        Ok(()) => Ok(0),
+        Err(fault) => Err(Ending::Serving(fault)),
+    }
+}
+
+/// The line, and then what it asks for.
+fn run(rt: &HostRuntime) -> Result<u8, Ending> {
+    let request = asked(rt)?;
+    match request.task {
+        Task::Answer(command) => tell(rt, command, &request.files),
+        Task::Serve { form, profile } => serve_all(rt, Setting { form, profile }, &request.files),
     }
 }
 

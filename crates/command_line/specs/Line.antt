@@ -16,6 +16,8 @@ use Rattle.answers.specs.declared.command.Command.TheVariants.{Check, Show, Veri
 use Rattle.answers.specs.declared.command.Form.{Form}
 use Rattle.answers.specs.declared.command.Form.TheVariants.{Plain, Json}
 use Rattle.command_line.specs.declared.line.Request.{Request}
+use Rattle.command_line.specs.declared.line.Task.{Task}
+use Rattle.command_line.specs.declared.line.Task.TheVariants.{Answer, Serve}
 use Rattle.command_line.specs.declared.line.LineFault.{LineFault}
 use Rattle.command_line.specs.declared.line.LineFault.TheVariants.{OutOfMemory, NoRequest}
 
@@ -103,8 +105,15 @@ line_with_known = with_subcommand (with_subcommand line_of_file verify) explain
 abbrev pub line_with_play : App
 line_with_play = with_subcommand line_with_known play
 
+-- messages are answered, and no file is judged
+abbrev pub serve : Shape
+serve = (with_rule (with_rule (with_rule (with_rule (new_app (codes "serve")) known_option) dynamic) release) json).top
+
+abbrev pub line_with_each : App
+line_with_each = with_subcommand line_with_play verify_each
+
 abbrev pub line : App
-line = with_subcommand line_with_play verify_each
+line = with_subcommand line_with_each serve
 
 -- the words for the argument of this name
 abbrev pub words_for : Text → List Row → List Text
@@ -118,6 +127,11 @@ files_in (Verify form profile) rows = words_for (codes "CLASS") rows ++ words_fo
 files_in (Explain form profile) rows = words_for (codes "CLASS") rows ++ words_for (codes "KNOWN") rows
 files_in (Play form profile) rows = words_for (codes "CLASS") rows
 files_in (VerifyEach form profile classes) rows = words_for (codes "CLASS") rows ++ words_for (codes "KNOWN") rows
+
+-- the files of a task
+abbrev pub task_files : Task → List Row → List Text
+task_files (Answer command) rows = files_in command rows
+task_files (Serve form profile) rows = words_for (codes "KNOWN") rows
 
 -- a flag is set where its one word is `true`
 abbrev pub is_true : List Text → Bool
@@ -158,9 +172,14 @@ command_named name rows =
     then VerifyEach (form_in rows) (profile_in rows) (length (words_for (codes "CLASS") rows))
     else Check (form_in rows) (profile_in rows)
 
+-- the task of a name
+abbrev pub task_named : Text → List Row → Task
+task_named name rows =
+    if bytes_eq name (codes "serve") then Serve (form_in rows) (profile_in rows) else Answer (command_named name rows)
+
 -- the request that the matches of a line make
-abbrev pub asked : Option (Text × List Row) → Option (Command × List Text)
-asked = option_map (λ p. (command_named p.0 p.1, files_in (command_named p.0 p.1) p.1))
+abbrev pub asked : Option (Text × List Row) → Option (Task × List Text)
+asked = option_map (λ p. (task_named p.0 p.1, task_files (task_named p.0 p.1) p.1))
 
 -- the fault has one of these kinds, or memory ran out
 abbrev pub IsFault : Kinds → LineFault → Type 0
@@ -176,5 +195,5 @@ ToldBy e (NoRequest f) = (f ≡ e) × (kind_of e ≡ kind.OutOfMemory → ⊥)
 -- The request of these words, where `clap` takes them; otherwise one of the kinds of fault that it finds in them.
 abbrev pub Asks : List Text → Result Request LineFault → Type 0
 Asks words (Ok r) = (fault_of line words ≡ [])
-    × (asked (subcommand_of line words) ≡ Some (r.command, map string_bytes r.files.items))
+    × (asked (subcommand_of line words) ≡ Some (r.task, map string_bytes r.files.items))
 Asks words (Err e) = IsFault (fault_of line words) e

@@ -11,5 +11,5 @@ mod parsing;
 
 pub use complaining::complaint;
 pub use fault::MainFault;
-pub use line::{LineFault, Request};
+pub use line::{LineFault, Request, Task};
 pub use parsing::request;

@@ -2,15 +2,25 @@
 ghost use Rattle.std.specs.Prelude.{◌≡◌};
 ghost use Rattle.command_line.specs.declared.line.LineFault.TheVariants.{OutOfMemory};
 
-use answers::Command;
+use answers::{Command, Form};
+use classfile::Profile;
 use std::alloc::{AllocError, AllocFailed};
 use thiserror::Error;
 
-/// A command and the files that it is to judge.
+/// A task of the program.
+#[derive(Clone, Copy, Debug, PartialEq, Eq)]
+pub enum Task {
+    /// To answer a command about its files.
+    Answer(Command),
+    /// To answer messages, where the classes in its files are known from the beginning.
+    Serve { form: Form, profile: Profile },
+}
+
+/// A task and its files.
 #[derive(Debug, Drop)]
 pub struct Request {
-    /// The command.
-    pub command: Command,
+    /// The task.
+    pub task: Task,
     /// The paths of its files, in the order of the line, as they stand there.
     pub files: Vec<String>,
 }

@@ -2,9 +2,9 @@
 ghost use Rattle.std.specs.Prelude.{◌≡◌, ◌++◌, IfOk, OnOk, codes, false, length, map, string_bytes};
 ghost use Rattle.clap.specs.Words.{Kinds, HasKind, app_of, rule_of, rows_of, found_of, new_app, with_rule};
 ghost use Rattle.clap.specs.declared.builder.command.Command.TheViews.{out-Command};
-ghost use Rattle.command_line.specs.Line.{line, line_of_file, line_with_known, line_with_play, file, json, class_file, known_files, class_files, known_option, dynamic, release, release_of, IsFault, ToldBy, Asks, is_true, form_in, profile_in, command_named, words_for, files_in};
+ghost use Rattle.command_line.specs.Line.{line, line_of_file, line_with_known, line_with_play, line_with_each, file, json, class_file, known_files, class_files, known_option, dynamic, release, release_of, IsFault, ToldBy, Asks, is_true, form_in, profile_in, command_named, task_named, words_for, files_in, task_files};
 
-use crate::line::{LineFault, Request};
+use crate::line::{LineFault, Request, Task};
 use answers::{Command, Form};
 use clap::builder::ValueParser;
 use clap::{Arg, ArgAction, ArgMatches, Command as Parser};
@@ -90,6 +90,16 @@ const EACH_EXAMPLE: &str = "Example:
 Behind `file NUMBER CLASS` stand the lines that `verify` prints of the class, where all classes of the line are known; of two of one name the
 first counts. A class that is refused is left out. So is a class below it, or below a class that is not given: it is refused 80, and
 `verify` of it alone says why. docs/REFUSALS.md explains the numbers.";
+
+/// The end of the help on `serve`.
+const SERVE_EXAMPLE: &str = "Example:
+  $ printf 'f\\0\\0\\0\\0' | classck serve --known java.lang.Object.class | od -An -tx1
+  00 00 00 00 00
+
+A message is a letter, four bytes with a length, the highest first, and so many bytes, of a class file: k makes the class known, v is answered
+as by `verify` beside the known classes of other names that stand with it, d is as v and makes the class known, in place of one of its name, if
+nothing is refused, x is answered as by `explain`, and f forgets all. A reply is a byte with the status, four with a length, and the text. The
+status is 0 where the input ends after a message.";
 
 /// `--release N`
 fn release<'a>(alloc: Global) -> Arg<'a>
@@ -315,6 +325,28 @@ fn verify_each<'a>(alloc: Global) -> Result<Parser<'a>, AllocError>
     )
 }
 
+/// A command that takes, after `--known`, the files of known classes.
+fn only_known<'a>(alloc: Global) -> Result<Parser<'a>, AllocError>
+    ensures app { IfOk result (λ c. app_of c ≡ with_rule (new_app (codes "serve")) known_option) }
+    ensures local { IfOk result (λ c. (out-Command c).has_globals ≡ false) }
+{
+    Parser::new(alloc, "serve").arg(known_option(alloc))
+}
+
+/// `serve --dynamic --release N --json --known KNOWN...`
+fn serve<'a>(alloc: Global) -> Result<Parser<'a>, AllocError>
+    ensures app { IfOk result (λ c. app_of c
+        ≡ with_rule (with_rule (with_rule (with_rule (new_app (codes "serve")) known_option) dynamic) release) json) }
+    ensures local { IfOk result (λ c. (out-Command c).has_globals ≡ false) }
+{
+    let command = judging(alloc, only_known(alloc)?)?.arg(json(alloc))?;
+    Ok(
+        command
+            .about("Answers messages on standard input, one after the other")
+            .after_help(SERVE_EXAMPLE),
+    )
+}
+
 /// The command lines of one file.
 fn commands_of_files<'a>(alloc: Global) -> Result<Parser<'a>, AllocError>
     ensures { IfOk result (λ c. app_of c ≡ line_of_file) }
@@ -344,11 +376,18 @@ fn with_play<'a>(alloc: Global) -> Result<Parser<'a>, AllocError>
     with_known(alloc)?.subcommand(play(alloc)?)
 }
 
+/// These command lines, and that of many classes.
+fn with_each<'a>(alloc: Global) -> Result<Parser<'a>, AllocError>
+    ensures { IfOk result (λ c. app_of c ≡ line_with_each) }
+{
+    with_play(alloc)?.subcommand(verify_each(alloc)?)
+}
+
 /// The command lines that the program knows.
 fn parser<'a>(alloc: Global) -> Result<Parser<'a>, AllocError>
     ensures { IfOk result (λ c. app_of c ≡ line) }
 {
-    with_play(alloc)?.subcommand(verify_each(alloc)?)
+    with_each(alloc)?.subcommand(serve(alloc)?)
 }
 
 /// Adds copies of the words.
@@ -393,6 +432,20 @@ fn files(alloc: Global, command: Command, found: &ArgMatches<'_>) -> Result<Vec<
         Command::Play(..) => add_words(alloc, found, "CLASS", &mut files)?,
     }
     Ok(files)
+}
+
+/// The files of a task.
+fn task_files(alloc: Global, task: Task, found: &ArgMatches<'_>) -> Result<Vec<String>, AllocError>
+    ensures { IfOk result (λ v. map string_bytes v.items ≡ task_files task (rows_of (found_of found.now))) }
+{
+    match task {
+        Task::Answer(command) => files(alloc, command, found),
+        Task::Serve { .. } => {
+            let mut files = Vec::new(alloc);
+            add_words(alloc, found, "KNOWN", &mut files)?;
+            Ok(files)
+        }
+    }
 }
 
 /// Whether these are the words of a flag that is set: the one word `true`, as `clap` has it.
@@ -491,6 +544,20 @@ fn command_named(name: &str, found: &ArgMatches<'_>) -> Command
     }
 }
 
+/// The task of this name, with what the words after it ask for.
+fn task_named(name: &str, found: &ArgMatches<'_>) -> Task
+    ensures { result ≡ task_named name.now (rows_of (found_of found.now)) }
+{
+    if name == "serve" {
+        Task::Serve {
+            form: form(found),
+            profile: profile(found),
+        }
+    } else {
+        Task::Answer(command_named(name, found))
+    }
+}
+
 /// Why a line makes no request, by an error of `clap`.
 fn line_fault(error: clap::Error) -> LineFault
     ensures kind { (kinds : Kinds) → HasKind kinds error → IsFault kinds result }
@@ -514,10 +581,10 @@ pub fn request(alloc: Global, words: &[&str]) -> Result<Request, LineFault>
     };
     match matches.subcommand() {
         Some((name, found)) => {
-            let command = command_named(name, found);
+            let task = task_named(name, found);
             Ok(Request {
-                command,
-                files: files(alloc, command, found)?,
+                task,
+                files: task_files(alloc, task, found)?,
             })
         }
         None => unreachable!(),

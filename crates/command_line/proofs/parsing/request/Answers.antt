@@ -6,7 +6,7 @@ use Rattle.std.specs.Prelude.{Box}
 use Rattle.std.specs.Box.{box_value}
 use Rattle.clap.specs.declared.parser.matches.SubCommand.{SubCommand}
 use Rattle.clap.proofs.OnLiterals.{clap_on_literals}
-use Rattle.command_line.specs.Line.{line, IsFault, asked, files_in}
+use Rattle.command_line.specs.Line.{line, IsFault, asked, task_files}
 use Rattle.command_line.proofs.parsing.request.Goals as goal
 
 free : is_simple_and_free line ≡ true
@@ -37,8 +37,8 @@ returns c =
     let name : Some c.in-Some.name.now ≡ option_map (λ p. p.0) (subcommand_rows_of m) = c.in-Some.ensures.name ∙ sym (name_in (out-ArgMatches m).subcommand) in (
       ap (λ a. fault_of a words) (sym is_line) ∙ none,
       ap (λ a. asked (subcommand_of a words)) (sym is_line) ∙ ap asked (sym rows) ∙ ap asked (sym (both (subcommand_rows_of m) _ _ name found))
-          ∙ ap (λ command. Some (command, files_in command (rows_of (found_of c.in-Some.found.now)))) (sym c.command_named-command.ensures)
-          ∙ ap (λ files. Some (c.command_named-command.result, files)) (sym c.in_ok-files-in-Some.ensures),
+          ∙ ap (λ task. Some (task, task_files task (rows_of (found_of c.in-Some.found.now)))) (sym c.task_named-task.ensures)
+          ∙ ap (λ files. Some (c.task_named-task.result, files)) (sym c.in_ok-task_files-in-Some.ensures),
     )
 
 pub returns-in-Err : goal.returns-in-Err
