@@ -1,6 +1,6 @@
 //! Summaries of classes with members.
 use crate::making::summary;
-use hierarchy::{Kind, MemberPlaces, MemberSummary, Summary};
+use hierarchy::{Kind, MemberPlaces, MemberSummary, Overriding, Summary};
 use std::alloc::{AllocError, Global};
 
 /// A member by its texts.
@@ -11,6 +11,7 @@ pub struct Declared<'a> {
     pub descriptor: &'a [u8],
     pub is_static: bool,
     pub is_protected: bool,
+    pub overriding: Overriding,
 }
 
 /// The name of a class, that of its superclass, and the members that it declares.
@@ -39,6 +40,7 @@ fn declare<'a>(class: &mut Summary<'a>, member: &Declared<'a>) -> Result<(), All
         },
         is_static: member.is_static,
         is_protected: member.is_protected,
+        overriding: member.overriding,
     })?;
     Ok(())
 }

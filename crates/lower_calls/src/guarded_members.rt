@@ -1,8 +1,8 @@
 use crate::declaring::{Declared, Row, declaring, place_in};
 use crate::making::{hasher, object};
 use hierarchy::{
-    Classes, HierarchyFault, Kind, MemberPlaces, MemberRef, Prepared, References, Rows, Summary,
-    guarded,
+    Classes, HierarchyFault, Kind, MemberPlaces, MemberRef, Overriding, Prepared, References, Rows,
+    Summary, guarded,
 };
 use names::OBJECT;
 use std::alloc::{AllocError, Global};
@@ -17,6 +17,7 @@ macro_rules! field {
             descriptor: b"I",
             is_static: false,
             is_protected: $is_protected,
+            overriding: Overriding::Apart,
         }
     };
 }
@@ -31,6 +32,7 @@ const OF_Q: [Declared<'static>; 4] = [
         descriptor: b"I",
         is_static: true,
         is_protected: true,
+        overriding: Overriding::Apart,
     },
     Declared {
         kind: Kind::Method,
@@ -38,6 +40,7 @@ const OF_Q: [Declared<'static>; 4] = [
         descriptor: b"()V",
         is_static: false,
         is_protected: true,
+        overriding: Overriding::Apart,
     },
 ];
 

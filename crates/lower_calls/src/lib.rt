@@ -8,6 +8,7 @@
 //! | `ancestor_rows` | `hierarchy`: rows of ancestors |
 //! | `summaries` | `hierarchy`: summaries compared, and texts of a pool kept once |
 //! | `guarded_members` | `hierarchy`: references to protected members of other packages |
+//! | `overridden_methods` | `hierarchy`: methods that override a final one |
 //! | `assignability` | `frames`: one type or frame where another is wanted |
 //! | `differences` | `frames`: the first difference of two frames, and the first class that is missing |
 //! | `packed_frames` | `frames`: types as slots, and frames compared by them |
@@ -17,7 +18,7 @@
 //! | `shared_rows` | `blocks`: rows of numbers, changed, declared, taken on and compared |
 //! | `expected_types` | `rules`: what instructions name, their ways, what a frame lacks, and reasons together |
 //! | `printed_text` | `printing`: texts of class files, names and faults |
-//! | `declaring` | classes with members, for two of them |
+//! | `declaring` | classes with members, for three of them |
 //! | `making` | what several of them, and of those in the crates of tests above, stand on |
 //!
 //! A test with `memory` in its name passes also where any one allocation fails; `tests/run/allocations` runs those so.
@@ -42,6 +43,8 @@ pub mod making;
 mod numbered_frames;
 #[cfg(test)]
 mod numbered_types;
+#[cfg(test)]
+mod overridden_methods;
 #[cfg(test)]
 mod packed_frames;
 #[cfg(test)]

@@ -1,6 +1,6 @@
 //! Values that tests of several files use: class files, summaries of classes, and frames.
 use frames::{Frame, VType};
-use hierarchy::{Kind, MemberPlaces, MemberSummary, Summary};
+use hierarchy::{Kind, MemberPlaces, MemberSummary, Overriding, Summary};
 use names::{Base, OBJECT, Primitive};
 use std::alloc::{AllocError, Global};
 use std::hash::{BuildHasherDefault, FoldHasher};
@@ -88,6 +88,7 @@ fn object_with_clone<'a>(alloc: Global) -> Result<Summary<'a>, AllocError> {
         },
         is_static: false,
         is_protected: true,
+        overriding: Overriding::Apart,
     })?;
     Ok(above)
 }

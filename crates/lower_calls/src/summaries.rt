@@ -1,5 +1,5 @@
 use crate::declaring::{Declared, declaring};
-use hierarchy::{Kind, MemberSummary, Summary, Texts, same_summary};
+use hierarchy::{Kind, MemberSummary, Overriding, Summary, Texts, same_summary};
 use names::{OBJECT, check_text};
 use pool::{Constant, Pool};
 use std::alloc::{AllocError, Global};
@@ -11,10 +11,11 @@ const X: Declared<'static> = Declared {
     descriptor: b"I",
     is_static: false,
     is_protected: true,
+    overriding: Overriding::Apart,
 };
 
 /// The field X and members that differ from it in one part each.
-const MEMBERS: [Declared<'static>; 6] = [
+const MEMBERS: [Declared<'static>; 9] = [
     X,
     Declared { name: b"y", ..X },
     Declared {
@@ -31,6 +32,18 @@ const MEMBERS: [Declared<'static>; 6] = [
     },
     Declared {
         is_protected: false,
+        ..X
+    },
+    Declared {
+        overriding: Overriding::Open,
+        ..X
+    },
+    Declared {
+        overriding: Overriding::FinalInPackage,
+        ..X
+    },
+    Declared {
+        overriding: Overriding::Final,
         ..X
     },
 ];

@@ -2,8 +2,8 @@ use crate::making::{hasher, object, setting, summary};
 use classfile::{ClassFile, decode, form_check};
 use format_calls::making::K;
 use hierarchy::{
-    Answer, Chains, Classes, HierarchyFault, Kind, MemberSummary, Summary, laws, name_of,
-    summary_of, twice_as_far,
+    Answer, Chains, Classes, HierarchyFault, Kind, MemberSummary, Overriding, Summary, laws,
+    name_of, summary_of, twice_as_far,
 };
 use names::OBJECT;
 use std::alloc::Global;
@@ -112,6 +112,7 @@ fn is_member_of_k(texts: &[&[u8]], member: MemberSummary) -> bool {
         && matches!(member.places.kind, Kind::Method)
         && member.is_static
         && !member.is_protected
+        && matches!(member.overriding, Overriding::Apart)
 }
 
 fn is_summary_of_k(summary: &Summary<'_>) -> bool {

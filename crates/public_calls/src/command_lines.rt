@@ -2,7 +2,7 @@
 use answers::{Command, Form};
 use clap::error::ErrorKind;
 use classfile::Profile;
-use command_line::{LineFault, MainFault, complaint, request};
+use command_line::{LineFault, MainFault, Task, complaint, request};
 use std::alloc::Global;
 use std::test::*;
 
@@ -10,7 +10,7 @@ use std::test::*;
 fn asks(alloc: Global, words: &[&str], command: Command, files: usize, last: &str) -> bool {
     match request(alloc, words) {
         Ok(asked) => {
-            asked.command == command
+            asked.task == Task::Answer(command)
                 && asked.files.len() == files
                 && matches!(asked.files.as_slice(), [.., file] if file.as_str() == last)
         }
@@ -81,6 +81,25 @@ fn lines_of_many_classes(rt: HostRuntime) {
         classes: 2,
     };
     assert!(rt; asks(rt.alloc(), &words, each, 3, "O"));
+}
+
+/// Whether the words ask for this task, with so many files.
+fn is_task(alloc: Global, words: &[&str], task: Task, files: usize) -> bool {
+    match request(alloc, words) {
+        Ok(asked) => asked.task == task && asked.files.len() == files,
+        Err(_) => false,
+    }
+}
+
+/// Messages are to be answered, and two classes are known from the beginning.
+#[test]
+fn lines_of_messages(rt: HostRuntime) {
+    let words = ["classck", "serve", "--json", "--known", "K", "O"];
+    let serve = Task::Serve {
+        form: Form::Json,
+        profile: Profile::Default,
+    };
+    assert!(rt; is_task(rt.alloc(), &words, serve, 2));
 }
 
 const DYNAMIC: [Row<'static>; 3] = [

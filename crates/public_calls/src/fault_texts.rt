@@ -12,8 +12,8 @@ use pool::PoolFault;
 use std::alloc::Global;
 use std::fmt::Display;
 use verify::{
-    AmongFault, ClassFault, EachFault, FileFault, PlayFault, PlayRule, TogetherFault, VerifyFault,
-    WalkFault,
+    AmongFault, ClassFault, EachFault, FileFault, FinalRule, PlayFault, PlayRule, TogetherFault,
+    VerifyFault, WalkFault,
 };
 
 /// Whether each fault is displayed as the text beside it.
@@ -269,7 +269,7 @@ fn faults_of_files(rt: HostRuntime) {
     assert!(rt; are_shown(rt.alloc(), &FAULTS_OF_FILES));
 }
 
-const FAULTS_OF_CLASSES: [(ClassFault, &str); 5] = [
+const FAULTS_OF_CLASSES: [(ClassFault, &str); 6] = [
     (ClassFault::OutOfMemory, "refused 1"),
     (ClassFault::NoClass(ReadFault::BadMagic), "refused 10"),
     (
@@ -280,7 +280,11 @@ const FAULTS_OF_CLASSES: [(ClassFault, &str); 5] = [
         "refused 24",
     ),
     (ClassFault::NotInHierarchy, "refused 80"),
-    (ClassFault::FinalSuper, "refused 81"),
+    (ClassFault::Final(FinalRule::FinalSuper), "refused 81"),
+    (
+        ClassFault::Final(FinalRule::FinalOverridden { method: 2 }),
+        "refused 85",
+    ),
 ];
 
 #[test]
@@ -288,7 +292,7 @@ fn faults_of_classes(rt: HostRuntime) {
     assert!(rt; are_shown(rt.alloc(), &FAULTS_OF_CLASSES));
 }
 
-const FAULTS_AMONG_CLASSES: [(AmongFault<'static>, &str); 5] = [
+const FAULTS_AMONG_CLASSES: [(AmongFault<'static>, &str); 6] = [
     (AmongFault::OutOfMemory, "refused 1"),
     (AmongFault::Refused(CUT), "class refused 2 at 95"),
     (
@@ -302,7 +306,11 @@ const FAULTS_AMONG_CLASSES: [(AmongFault<'static>, &str); 5] = [
         AmongFault::NoHierarchy(HierarchyFault::NoObject),
         "hierarchy refused 43",
     ),
-    (AmongFault::FinalSuper, "class refused 81"),
+    (AmongFault::Final(FinalRule::FinalSuper), "class refused 81"),
+    (
+        AmongFault::Final(FinalRule::FinalOverridden { method: 2 }),
+        "class refused 85",
+    ),
 ];
 
 #[test]
@@ -315,7 +323,7 @@ const FAULTS_OF_CLASSES_IN_PLAY: [(PlayFault, &str); 3] = [
     (
         PlayFault::Broken {
             class: 0,
-            rule: PlayRule::FinalSuper,
+            rule: PlayRule::Final(FinalRule::FinalSuper),
         },
         "refused 81",
     ),
@@ -349,7 +357,7 @@ const FAULTS_OF_FILES_IN_PLAY: [(TogetherFault<'static>, &str); 4] = [
     (
         TogetherFault::Broken {
             number: 1,
-            rule: PlayRule::FinalSuper,
+            rule: PlayRule::Final(FinalRule::FinalSuper),
         },
         "class 1 refused 81",
     ),

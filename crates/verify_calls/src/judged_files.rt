@@ -13,7 +13,7 @@ fn refusal_of(judgement: &Judgement<'_>) -> u8 {
         Judgement::Reported { .. } => 0,
         Judgement::Refused(fault) => number_of(fault),
         Judgement::NotInHierarchy { .. } => 80,
-        Judgement::FinalSuper { .. } => 81,
+        Judgement::Final { rule, .. } => rule.number(),
     }
 }
 
@@ -62,8 +62,7 @@ fn is_of_k(judgement: &Judgement<'_>) -> bool {
         Judgement::Reported { name, report } => {
             *name == b"K".as_slice() && report.methods.len() == 1
         }
-        Judgement::Refused(_) | Judgement::NotInHierarchy { .. } | Judgement::FinalSuper { .. } =>
-            false,
+        Judgement::Refused(_) | Judgement::NotInHierarchy { .. } | Judgement::Final { .. } => false,
     }
 }
 

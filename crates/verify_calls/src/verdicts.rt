@@ -7,10 +7,11 @@ use std::alloc::{AllocError, Global};
 use std::test::*;
 use type_numbers::TypeNumbers;
 use verify::{
-    ClassFault, MethodVerdict, Report, Verdict, VerifyFault, fits_breadth, frames_are_judged,
-    map_refused_where, member_words_are_said, methods_are_seen, one_frames, one_report,
-    one_verdict, refused_breaks, refused_where, type_safe_is_safe, type_safe_is_verified,
-    verified_is_type_safe, verify_by_numbers, verify_class, verify_method, verify_methods,
+    ClassFault, FinalRule, MethodVerdict, Report, Verdict, VerifyFault, fits_breadth,
+    frames_are_judged, map_refused_where, member_words_are_said, methods_are_seen, one_frames,
+    one_report, one_verdict, refused_breaks, refused_where, type_safe_is_safe,
+    type_safe_is_verified, verified_is_type_safe, verify_by_numbers, verify_class, verify_method,
+    verify_methods,
 };
 
 #[test]
@@ -199,10 +200,10 @@ fn is_refused_below_final(alloc: Global, bytes: &[u8], formed: &Formed<'_, '_>) 
         Ok(classes) => {
             matches!(
                 verify_class(alloc, bytes, &classes),
-                Err(ClassFault::FinalSuper)
+                Err(ClassFault::Final(FinalRule::FinalSuper))
             ) && matches!(
                 verify_methods(alloc, formed, &classes),
-                Err(ClassFault::FinalSuper)
+                Err(ClassFault::Final(FinalRule::FinalSuper))
             )
         }
         Err(_) => false,

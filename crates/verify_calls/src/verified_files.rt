@@ -113,7 +113,7 @@ fn of_among(fault: &AmongFault<'_>) -> (usize, u8) {
         AmongFault::Refused(fault) => (0, number_of(fault)),
         AmongFault::KnownRefused { number, fault } => (*number, number_of(fault)),
         AmongFault::NoHierarchy(fault) => (0, fault.number()),
-        AmongFault::FinalSuper => (0, 81),
+        AmongFault::Final(rule) => (0, rule.number()),
     }
 }
 
