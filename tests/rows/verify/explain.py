@@ -222,7 +222,7 @@ def explained():
     without_an_option = [it for it in reasons() if it[1] == "verify"]
     for (what, _, files, _), lines in zip(without_an_option, METHODS.strip().splitlines(), strict=True):
         yield what, files, text(lines.split("|"))
-    for what, command, files, line in faults():
+    for what, command, files, line in (it for it in faults() if "--" not in it[1]):
         number = int(what.split()[-1])
         if command == "check":
             behind = [OF_NUMBER[number], *PARTS.get(number, [])]

@@ -5,7 +5,7 @@ from dataclasses import replace
 from rows.known import KNOWN
 from rows.verify.handlers import handler
 from rows.verify.references import Constants, assembled
-from tools.assembler import OBJECT, STATIC, attribute, named, utf8
+from tools.assembler import OBJECT, STATIC, attribute, member, named, utf8
 from tools.class_k import K, OBJECT_CLASS, code_f, method_f, with_constants
 from tools.places import DOCS
 from tools.stack_maps import stack_map_of
@@ -13,7 +13,7 @@ from tools.stack_maps import stack_map_of
 PAGE = DOCS / "REFUSALS.md"
 NUMBERS = [*range(60, 80), 82, 86, 90]
 # The options with which alone a number is told.
-OPTIONS = {"86": " --release 17", "90": " --dynamic"}
+OPTIONS = {"85": " --release 17", "86": " --release 17", "90": " --dynamic"}
 
 
 def table(heading):
@@ -55,11 +55,15 @@ def edited(words):
 
 
 def file_of(words):
-    """The class file of `A`, `A below B` or `final A`."""
+    """The class file of `A`, `A below B` or `final A`; `with f` or `with final f` it has a native method."""
+    words, _, method = words.partition(" with ")
     name, _, above = words.removeprefix("final ").partition(" below ")
     if name == OBJECT:
         return OBJECT_CLASS
-    return named(name, above=above or OBJECT, flags=0x0031 if words.startswith("final ") else 0x0021).data()
+    it = named(name, above=above or OBJECT, flags=0x0031 if words.startswith("final ") else 0x0021)
+    count = len(it.constants)
+    methods = [member(0x0111 if method.startswith("final ") else 0x0101, count + 1, count + 2)] if method else []
+    return replace(it, constants=[*it.constants, utf8("f"), utf8("()V")], methods=methods).data()
 
 
 def faults():
@@ -72,7 +76,7 @@ def faults():
         k = replace(with_constants(utf8("StackMapTable")), methods=[method_f(code_f(b"\0\xb1" if nested else data, stack=int(number == "53"), nested=nested))])
         yield f"the example of {number}", "verify", [k.data(), OBJECT_CLASS], f"method f ()V refused {78 if nested else 79} at 0 fault {number}"
     for number, classes, line, _ in table("Of a list"):
-        yield f"the example of {number}", "verify", [file_of(it) for it in classes.split("; ")], line
+        yield f"the example of {number}", f"verify{OPTIONS.get(number, '')}", [file_of(it) for it in classes.split("; ")], line
 
 
 def faults_of_release():
