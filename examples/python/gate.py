@@ -69,7 +69,7 @@ class Gate:
             except (BrokenPipeError, EOFError) as why:
                 raise RuntimeError(self._end()) from why
             except BaseException:
-                # What is left of this reply would be taken for the next one.
+                # The rest of this reply would be taken for the next one.
                 self.process.kill()
                 raise
 

@@ -28,7 +28,7 @@ while b"Guarded" not in (data := os.read(0, 65536)):
 process.kill()
 sys.exit("no more")
 """
-# What Guarded prints before it loads a class.
+# The line that Guarded prints before it loads a class.
 FRONT = "direct, a lambda, reflected, a proxy, x-y\n"
 
 

@@ -50,7 +50,7 @@ fn overriding_by(flags: u16) -> Overriding
     }
 }
 
-/// What is known of members before each of them is looked at.
+/// Whether the class of members was read by a release, and their kind.
 #[derive(Clone, Copy)]
 struct Origin {
     // Whether their class was read by a release.

@@ -75,7 +75,7 @@ IsBroken ReadFailed rest after = Unit {0}
 IsBroken OutOfMemory rest after = Unit {0}
 IsBroken stop rest after = ⊥
 
--- What was taken of the input is one message, which came whole; or nothing, at its end; or a message is broken.
+-- One message was taken of the input, and came whole; or nothing was, at its end; or a message is broken.
 abbrev pub TakesMessage : Option (List ℕ) → Option (List ℕ) → Result (Option Message) Stop → Type 0
 TakesMessage before after (Ok (Some m)) = (f : MessageFact) × IsWhole f × (f.kind ≡ m.kind) × (f.bytes ≡ m.bytes.items)
     × Consumes before after (message_bytes f)

@@ -20,7 +20,7 @@ use std::io::{Read, Write};
 use std::random::RandomSource;
 use verify::KnownSummaries;
 
-/// What became of the next message.
+/// The outcome of the next message.
 #[derive(Drop)]
 enum Turn<'a> {
     /// There is none: the input has ended.

@@ -29,7 +29,7 @@ pub enum Stop {
     /// A reply could not be written, or not whole.
     #[error("refused 19")]
     NotWritten,
-    /// As many messages were answered as are counted.
+    /// So many messages were answered.
     #[error("too many messages")]
     TooMany,
 }
